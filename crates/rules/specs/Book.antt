@@ -1,0 +1,188 @@
+-- Document 01, "The book, field by field" (which tag may stand where) and "Refusal numbers" 1 to 10 with their places.
+-- Assumes nothing.
+use Prim.Native.Nat.{ℕ, _+_, _-_, min, max}
+use mathlib.Core.List.{List, [], _∷_, _++_}
+use mathlib.Core.Bool.{Bool, true, false, cond, not, _||_}
+use lib.ListN.{length}
+use lib.Dec.{leb, ltb, eqb}
+use Rattle.rules.specs.declared.Fen.{Fen}
+use Rattle.rules.specs.declared.Lots.{Lots}
+use Rattle.rules.specs.declared.Rate.{Rate}
+use Rattle.rules.specs.declared.Terms.{Terms}
+use Rattle.rules.specs.declared.Position.{Position}
+use Rattle.rules.specs.declared.Trade.{Trade}
+use Rattle.rules.specs.declared.Figure.{Figure}
+use Rattle.rules.specs.declared.Figure.the-variants.{Value, Comma, Malformed}
+use Rattle.rules.specs.declared.Opening.{Opening}
+use Rattle.rules.specs.declared.Opening.the-variants.{Made}
+use Rattle.rules.specs.declared.Opening.the-variants.{Comma as CommaIn}
+use Rattle.rules.specs.declared.Opening.the-variants.{Malformed as NoTrade}
+use Rattle.rules.specs.Text.{is, bytes}
+use Rattle.rules.specs.Figures.{fen, lots, rate, priceForm, rateForm, heldForm, figureOf, openingOf}
+use Rattle.rules.specs.Codes.{isCode, same}
+use Rattle.rules.specs.Fields.{Field, Whole, Cut, fieldsOf}
+
+-- "Net position: the larger of K and H less the smaller, on the larger's side."
+abbrev pub net : Position → ℕ
+net p = max (p .long .0) (p .short .0) - min (p .long .0) (p .short .0)
+
+abbrev pub netLong : Position → Bool
+netLong p = ltb (p .short .0) (p .long .0)
+
+-- "C, K, H, Q, then opening trades". The trades are held newest first
+pub record Customer : Type 0 where
+  pub code : List ℕ
+  pub position : Position
+  pub trades : List Trade
+
+-- a trade is on a side: bought for a long position, sold for a short one
+abbrev pub onSide : Bool → Trade → Bool
+onSide true t = t .bought
+onSide false t = not (t .bought)
+
+abbrev pub opened : Bool → List Trade → ℕ
+opened long [] = 0
+opened long (t ∷ ts) = cond (onSide long t) (t .lots .0) 0 + opened long ts
+
+-- 9: "the customer's opening trades on the side of its net position sum to less than that position"
+abbrev pub uncovered : Customer → Bool
+uncovered c = ltb (opened (netLong (c .position)) (c .trades)) (net (c .position))
+
+-- 8: "Q exceeds K when locked down, or H when locked up"
+abbrev pub overdrawn : Terms → Position → Bool
+overdrawn terms p = ltb (cond (terms .down) (p .long .0) (p .short .0)) (p .unfilled .0)
+
+-- 7: "a customer code was given before"
+abbrev pub given : List ℕ → List Customer → Bool
+given v [] = false
+given v (c ∷ cs) = same (c .code) v || given v cs
+
+-- What one field comes to: a refusal's number, or what it leads to. No place is seen here.
+pub data Step (A : Type 0) : Type 0 where
+  Stop : ℕ → Step A
+  Next : A → Step A
+
+module _ {A : Type 0} where
+  -- 3: "the tag doesn't belong there"
+  abbrev pub must : Bool → Step A → Step A
+  must true next = next
+  must false next = Stop 3
+
+  -- a refusal where the test holds
+  abbrev pub refuse : ℕ → Bool → Step A → Step A
+  refuse n true next = Stop n
+  refuse n false next = next
+
+  -- 4 and 5 for a figure
+  abbrev pub figure : Figure → (ℕ → Step A) → Step A
+  figure (Value n) next = next n
+  figure Comma next = Stop 4
+  figure Malformed next = Stop 5
+
+  -- 4 and 5 for a trade
+  abbrev pub trade : Opening → (Trade → Step A) → Step A
+  trade (Made t) next = next t
+  trade CommaIn next = Stop 4
+  trade NoTrade next = Stop 5
+
+  -- "D: one byte: D locked at the lower limit, U locked at the upper"
+  abbrev pub lock : List ℕ → (Bool → Step A) → Step A
+  lock v next = cond (same v (bytes "D")) (next true) (cond (same v (bytes "U")) (next false) (Stop 5))
+
+-- "Customers: C, K, H, Q, then opening trades, each B or A": a customer's group as far as it is read
+pub data Group : Type 0 where
+  Nobody : Group
+  Coded : List ℕ → Group
+  Long : List ℕ → Lots → Group
+  Short : List ℕ → Lots → Lots → Group
+  Trading : Customer → Group
+
+-- 8 at Q, and then no trade yet
+abbrev pub holding : Terms → List ℕ → Position → Step Group
+holding terms code p = refuse 8 (overdrawn terms p) (Next (Trading (record { code = code; position = p; trades = [] })))
+
+abbrev pub traded : Customer → Trade → Customer
+traded c t = record { code = c .code; position = c .position; trades = t ∷ c .trades }
+
+-- K, H, Q and the trades: they depend on the terms and on the customer's own fields alone
+unfoldable pub within : Terms → Group → ℕ → List ℕ → Step Group
+within terms Nobody t v = Stop 3
+within terms (Coded code) t v = must (is "K" t) (figure (figureOf heldForm v) λ k. Next (Long code (lots k)))
+within terms (Long code k) t v = must (is "H" t) (figure (figureOf heldForm v) λ h. Next (Short code k (lots h)))
+within terms (Short code k h) t v =
+    must (is "Q" t) (figure (figureOf heldForm v) λ q. holding terms code (record { long = k; short = h; unfilled = lots q }))
+within terms (Trading c) t v =
+    must (is "B" t || is "A" t) (trade (openingOf (is "B" t) v) λ x. Next (Trading (traded c x)))
+
+-- "Terms, each once: D, S, L, U, V", then the groups: what is due, with what was read before
+pub data Due : Type 0 where
+  DueD : Due
+  DueS : Bool → Due
+  DueL : Bool → Fen → Due
+  DueU : Bool → Fen → Rate → Due
+  DueV : Bool → Fen → Rate → Rate → Due
+  InGroup : Terms → List Customer → Group → Due
+
+-- the book is being read, or "Z" has ended it
+pub data Stage : Type 0 where
+  Reading : Due → Stage
+  Ended : Terms → List Customer → Stage
+
+-- 3 and 9 at C or Z: the customers, with the one whose group ends here
+abbrev pub closed : List Customer → Group → (List Customer → Step Stage) → Step Stage
+closed cs Nobody next = next cs
+closed cs (Coded code) next = Stop 3
+closed cs (Long code k) next = Stop 3
+closed cs (Short code k h) next = Stop 3
+closed cs (Trading c) next = refuse 9 (uncovered c) (next (cs ++ c ∷ []))
+
+-- "10: a C after 256 customers", then 5, then 7
+abbrev pub opens : Terms → List ℕ → List Customer → Step Stage
+opens terms v cs =
+    refuse 10 (leb 256 (length cs)) (refuse 5 (not (isCode v)) (refuse 7 (given v cs) (Next (Reading (InGroup terms cs (Coded v))))))
+
+-- "Z, length 0 (another length is 5)"
+abbrev pub ends : Terms → List ℕ → List Customer → Step Stage
+ends terms v cs = refuse 5 (ltb 0 (length v)) (Next (Ended terms cs))
+
+abbrev pub goesOn : Terms → List Customer → Step Group → Step Stage
+goesOn terms cs (Stop n) = Stop n
+goesOn terms cs (Next g) = Next (Reading (InGroup terms cs g))
+
+-- "For one field: 2, 3, then (at C or Z after a customer) 9 for that customer, then 10, 4, 5, then 6 at V, 7 at C, 8 at Q."
+unfoldable pub step : Due → ℕ → List ℕ → Step Stage
+step DueD t v = must (is "D" t) (lock v λ d. Next (Reading (DueS d)))
+step (DueS d) t v = must (is "S" t) (figure (figureOf priceForm v) λ s. Next (Reading (DueL d (fen s))))
+step (DueL d s) t v = must (is "L" t) (figure (figureOf rateForm v) λ l. Next (Reading (DueU d s (rate l))))
+step (DueU d s l) t v = must (is "U" t) (figure (figureOf rateForm v) λ u. Next (Reading (DueV d s l (rate u))))
+-- 6: "U is not greater than V"
+step (DueV d s l u) t v =
+    must (is "V" t) (figure (figureOf rateForm v) λ x. refuse 6 (leb (u .0) x)
+    (Next (Reading (InGroup (record { down = d; settlement = s; loss = l; edge1 = u; edge2 = rate x }) [] Nobody))))
+step (InGroup terms cs g) t v =
+    cond (is "C" t) (closed cs g (opens terms v))
+    (cond (is "Z" t) (closed cs g (ends terms v))
+    (goesOn terms cs (within terms g t v)))
+
+pub data Verdict : Type 0 where
+  Refused : ℕ → ℕ → Verdict
+  Accepted : Terms → List Customer → Verdict
+
+-- The place of a refusal is the field's tag; of 9, "its C tag", the last one.
+abbrev pub placed : ℕ → ℕ → Step Stage → (Stage → Verdict) → Verdict
+placed lastC at (Stop n) next = Refused n (cond (eqb n 9) lastC at)
+placed lastC at (Next stage) next = next stage
+
+-- "Then fields are judged from the front, and the first that breaks a rule decides." The fields that begin at a place:
+-- "2: fewer than 3 bytes are left where a field must begin, or its value runs past the end"; "3: .. or bytes follow Z".
+abbrev pub walk : Stage → ℕ → ℕ → List Field → Verdict
+walk (Ended terms cs) lastC at [] = Accepted terms cs
+walk (Ended terms cs) lastC at (f ∷ fs) = Refused 3 at
+walk (Reading due) lastC at [] = Refused 2 at
+walk (Reading due) lastC at (Cut ∷ fs) = Refused 2 at
+walk (Reading due) lastC at (Whole t v ∷ fs) =
+    placed lastC at (step due t v) λ stage. walk stage (cond (is "C" t) at lastC) (at + 3 + length v) fs
+
+-- "1: the book has more than 60,000 bytes", and "Number 1 comes first."
+unfoldable pub judge : List ℕ → Verdict
+judge s = cond (ltb 60_000 (length s)) (Refused 1 0) (walk (Reading DueD) 0 0 (fieldsOf s))

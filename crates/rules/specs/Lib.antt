@@ -1,0 +1,14 @@
+-- Document 01 as definitions, a file for each of its parts, in its order; then its cases, computed.
+pub mod Text
+pub mod Figures
+pub mod Codes
+pub mod Fields
+pub mod Book
+pub mod Standing
+pub mod Division
+pub mod Cascade
+pub mod Report
+pub mod Answer
+pub mod Tables
+pub mod Cases
+pub mod Refusals

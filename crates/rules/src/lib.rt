@@ -1,0 +1,70 @@
+// The types of the paper: what document 01 names, and its limits. The rules themselves are definitions, in specs/.
+
+// A price. "Prices are in fen, positions in lots and rates in thousandths of a percent": three types, so that an edge
+// cannot be handed in as a price.
+pub struct Fen(pub u64);
+
+pub struct Lots(pub u64);
+
+pub struct Rate(pub u64);
+
+// What a figure says. The number is in the figure's own unit: fen, lots or thousandths of a percent.
+pub enum Figure {
+    Value(u64),
+    Comma,
+    Malformed,
+}
+
+// The form of a figure: at most `whole` digits, then a point and exactly `decimals` digits, or nothing where that is 0;
+// the number from `least` to `most`.
+pub struct Form {
+    pub whole: usize,
+    pub decimals: usize,
+    pub least: u64,
+    pub most: u64,
+}
+
+// The terms D, S, L, U, V: locked at the lower limit, the settlement price, the loss edge, the lower edges of T1 and T2.
+pub struct Terms {
+    pub down: bool,
+    pub settlement: Fen,
+    pub loss: Rate,
+    pub edge1: Rate,
+    pub edge2: Rate,
+}
+
+// K, H and Q: lots held long, held short, and unfilled close-out lots at the limit price at market close.
+pub struct Position {
+    pub long: Lots,
+    pub short: Lots,
+    pub unfilled: Lots,
+}
+
+// An opening trade: bought or sold, its price and its lots.
+pub struct Trade {
+    pub bought: bool,
+    pub price: Fen,
+    pub lots: Lots,
+}
+
+// What the value of a B or an A says.
+pub enum Opening {
+    Made(Trade),
+    Comma,
+    Malformed,
+}
+
+// P, 1, 2, 3 and N: pending, in a tier, neither.
+pub enum Standing {
+    Pending,
+    Tier1,
+    Tier2,
+    Tier3,
+    Neither,
+}
+
+pub const LONGEST_BOOK: usize = 60_000;
+
+pub const LONGEST_CODE: usize = 12;
+
+pub const MOST_CUSTOMERS: usize = 256;
