@@ -1,0 +1,140 @@
+//! The figures of document 01: prices, rates and lots, read straight from the value.
+//!
+//! Everything that says how a figure is written stands in this file, so a change of
+//! a form (decimals by a term, stamps on a trade) is a change here.
+
+use crate::cursor::Field;
+use crate::refusal::{Refusal, Rule};
+use crate::units::{Fen, Lots, Rate};
+
+/// The largest figure in lots, in holdings and in trades.
+const MOST_LOTS: u32 = 1_000_000;
+
+/// An opening trade, without its side: the tag tells that.
+#[derive(Clone, Copy, Debug, PartialEq, Eq)]
+pub struct Trade {
+    pub price: Fen,
+    pub lots: Lots,
+}
+
+/// The value of S.
+pub fn price(field: &Field) -> Result<Fen, Refusal> {
+    figure(field, Scan::price)
+}
+
+/// The value of L, U or V.
+pub fn rate(field: &Field) -> Result<Rate, Refusal> {
+    figure(field, Scan::rate)
+}
+
+/// The value of K, H or Q: 0 is allowed here.
+pub fn held(field: &Field) -> Result<Lots, Refusal> {
+    figure(field, Scan::lots)
+}
+
+/// The value of B or A: "a price, one blank (0x20), lots", at least 1 lot.
+#[inline]
+pub fn trade(field: &Field) -> Result<Trade, Refusal> {
+    figure(field, Scan::trade)
+}
+
+/// Reads the whole value by `read`; a value not of the form is 4 or 5.
+#[inline]
+fn figure<'a, T>(
+    field: &Field<'a>,
+    read: impl FnOnce(&mut Scan<'a>) -> Option<T>,
+) -> Result<T, Refusal> {
+    let mut scan = Scan { rest: field.value };
+    match read(&mut scan) {
+        Some(value) if scan.rest.is_empty() => Ok(value),
+        _ => Err(no_figure(field)),
+    }
+}
+
+/// Refusal 4 where a comma stands anywhere in the value, else 5. No good figure has
+/// a comma, so asking only once the form has failed keeps 4 before 5.
+#[cold]
+fn no_figure(field: &Field) -> Refusal {
+    if field.value.contains(&b',') {
+        field.refuse(Rule::Comma)
+    } else {
+        field.refuse(Rule::Form)
+    }
+}
+
+/// What is left of a value. Each step takes its piece off the front, or answers
+/// `None` where the piece isn't there.
+struct Scan<'a> {
+    rest: &'a [u8],
+}
+
+impl Scan<'_> {
+    /// 1 to 5 digits, a point, exactly 2 digits; 0.01 to 99999.99.
+    fn price(&mut self) -> Option<Fen> {
+        let yuan = self.whole(5)?;
+        self.byte(b'.')?;
+        let fen = 100 * yuan + self.decimals::<2>()?;
+        (fen > 0).then_some(Fen(fen))
+    }
+
+    /// 1 or 2 digits, a point, exactly 3 digits; 0.001 to 99.999.
+    fn rate(&mut self) -> Option<Rate> {
+        let percent = self.whole(2)?;
+        self.byte(b'.')?;
+        let thousandths = 1000 * percent + self.decimals::<3>()?;
+        (thousandths > 0).then_some(Rate(thousandths))
+    }
+
+    /// 1 to 7 digits; 0 to 1,000,000.
+    fn lots(&mut self) -> Option<Lots> {
+        let lots = self.whole(7)?;
+        (lots <= MOST_LOTS).then_some(Lots(lots))
+    }
+
+    fn trade(&mut self) -> Option<Trade> {
+        let price = self.price()?;
+        self.byte(b' ')?;
+        let lots = self.lots()?;
+        (lots.0 > 0).then_some(Trade { price, lots })
+    }
+
+    /// The digits at the front, 1 to `most` of them (at most 9, so that they fit), with
+    /// no leading zero unless it is the single digit 0. A digit more than `most` stays
+    /// in the rest and fails there: no digit may follow a whole part.
+    #[inline]
+    fn whole(&mut self, most: usize) -> Option<u32> {
+        let mut value = 0;
+        let mut count = 0;
+        for digit in self.rest.iter().take(most).map_while(|&byte| digit(byte)) {
+            value = 10 * value + digit;
+            count += 1;
+        }
+        if count == 0 || (count > 1 && self.rest[0] == b'0') {
+            return None;
+        }
+        self.rest = &self.rest[count..];
+        Some(value)
+    }
+
+    /// The next `N` bytes as digits. A digit more stays in the rest and fails there.
+    #[inline]
+    fn decimals<const N: usize>(&mut self) -> Option<u32> {
+        let (digits, rest) = self.rest.split_first_chunk::<N>()?;
+        self.rest = rest;
+        digits
+            .iter()
+            .try_fold(0, |value, &byte| Some(10 * value + digit(byte)?))
+    }
+
+    fn byte(&mut self, wanted: u8) -> Option<()> {
+        let (&first, rest) = self.rest.split_first()?;
+        self.rest = rest;
+        (first == wanted).then_some(())
+    }
+}
+
+/// The worth of an ASCII digit.
+#[inline]
+fn digit(byte: u8) -> Option<u32> {
+    byte.is_ascii_digit().then(|| u32::from(byte - b'0'))
+}

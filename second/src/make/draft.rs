@@ -1,0 +1,123 @@
+//! A book as numbers, and how it is written as bytes. Changes of the book's format
+//! come here first.
+
+/// The largest figures of document 01.
+pub const MOST_PRICE: u32 = 9_999_999;
+pub const MOST_RATE: u32 = 99_999;
+pub const MOST_LOTS: u32 = 1_000_000;
+
+#[derive(Clone, Copy, Debug, PartialEq, Eq)]
+pub struct Trade {
+    pub bought: bool,
+    /// In fen.
+    pub price: u32,
+    pub lots: u32,
+}
+
+#[derive(Clone, Debug)]
+pub struct Group {
+    pub code: Vec<u8>,
+    pub long: u32,
+    pub short: u32,
+    pub unfilled: u32,
+    /// Oldest first.
+    pub trades: Vec<Trade>,
+}
+
+#[derive(Clone, Debug)]
+pub struct Terms {
+    /// Locked at the lower limit.
+    pub down: bool,
+    /// S, in fen.
+    pub settlement: u32,
+    /// L, U and V, in thousandths of a percent.
+    pub loss_edge: u32,
+    pub tier1_edge: u32,
+    pub tier2_edge: u32,
+}
+
+#[derive(Clone, Debug)]
+pub struct Draft {
+    pub terms: Terms,
+    pub groups: Vec<Group>,
+}
+
+impl Draft {
+    pub fn bytes(&self) -> Vec<u8> {
+        // No trade field has more than 19 bytes, no group more than 45 beside them.
+        let trades: usize = self.groups.iter().map(|group| group.trades.len()).sum();
+        let most = 50 + 45 * self.groups.len() + 19 * trades;
+        let mut book = Book {
+            bytes: Vec::with_capacity(most),
+        };
+        book.terms(&self.terms);
+        for group in &self.groups {
+            book.group(group);
+        }
+        book.field(b'Z', |_| ());
+        book.bytes
+    }
+}
+
+/// A book being written.
+struct Book {
+    bytes: Vec<u8>,
+}
+
+impl Book {
+    fn terms(&mut self, terms: &Terms) {
+        let lock = if terms.down { b'D' } else { b'U' };
+        self.field(b'D', |value| value.push(lock));
+        self.field(b'S', |value| point(value, terms.settlement, 2));
+        self.field(b'L', |value| point(value, terms.loss_edge, 3));
+        self.field(b'U', |value| point(value, terms.tier1_edge, 3));
+        self.field(b'V', |value| point(value, terms.tier2_edge, 3));
+    }
+
+    fn group(&mut self, group: &Group) {
+        self.field(b'C', |value| value.extend_from_slice(&group.code));
+        self.field(b'K', |value| digits(value, group.long, 1));
+        self.field(b'H', |value| digits(value, group.short, 1));
+        self.field(b'Q', |value| digits(value, group.unfilled, 1));
+        for trade in &group.trades {
+            let tag = if trade.bought { b'B' } else { b'A' };
+            self.field(tag, |value| write_trade(value, trade));
+        }
+    }
+
+    /// Writes one field; the length bytes are set once the value is there.
+    fn field(&mut self, tag: u8, value: impl FnOnce(&mut Vec<u8>)) {
+        self.bytes.extend_from_slice(&[tag, 0, 0]);
+        let start = self.bytes.len();
+        value(&mut self.bytes);
+        let length = (self.bytes.len() - start) as u16;
+        self.bytes[start - 2..start].copy_from_slice(&length.to_be_bytes());
+    }
+}
+
+fn write_trade(value: &mut Vec<u8>, trade: &Trade) {
+    point(value, trade.price, 2);
+    value.push(b' ');
+    digits(value, trade.lots, 1);
+}
+
+/// A number with its last `decimals` digits after a point.
+fn point(value: &mut Vec<u8>, number: u32, decimals: usize) {
+    let one = 10_u32.pow(decimals as u32);
+    digits(value, number / one, 1);
+    value.push(b'.');
+    digits(value, number % one, decimals);
+}
+
+/// A number in digits, with leading zeros up to `least` digits.
+fn digits(value: &mut Vec<u8>, number: u32, least: usize) {
+    let mut digits = [b'0'; 10];
+    let mut left = number;
+    let mut count = 0;
+    while left > 0 || count < least {
+        count += 1;
+        digits[10 - count] = b'0' + (left % 10) as u8;
+        left /= 10;
+    }
+    value.extend_from_slice(&digits[10 - count..]);
+}

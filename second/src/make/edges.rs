@@ -1,0 +1,201 @@
+//! Books at the edges of the rules. Edge prices and exact sizes have their own files.
+
+use super::at_price;
+use super::codes;
+use super::draft::{Draft, Group, Terms, Trade, MOST_LOTS, MOST_PRICE, MOST_RATE};
+use super::groups::{group, Position};
+use super::rng::Rng;
+use super::sizes;
+use super::trades::{lots, Depth};
+use super::whole;
+
+type Make = fn(&mut Rng) -> Draft;
+
+/// The kinds with their weights: books of tens of thousands of bytes are rare, so
+/// that millions of books are made quickly.
+const KINDS: [(u64, (&str, Make)); 10] = [
+    (40, ("edge price", at_price::draft)),
+    (25, ("ties", ties)),
+    (10, ("nested codes", nested_codes)),
+    (8, ("no net position", no_net)),
+    (8, ("pending above net", pending_above_net)),
+    (6, ("largest figures", largest_figures)),
+    (1, ("largest totals", largest_totals)),
+    (2, ("customer count", customer_count)),
+    (1, ("exact size", sizes::exact)),
+    (1, ("many trades", sizes::many_trades)),
+];
+
+/// An edge book and the name of its kind. Only books with 257 customers or 60,001
+/// bytes aren't accepted.
+pub fn draft(rng: &mut Rng) -> (&'static str, Draft) {
+    let (kind, make) = rng.weighted(&KINDS);
+    (kind, make(rng))
+}
+
+/// Few trades: the point of these books is elsewhere.
+const SHALLOW: Depth = Depth {
+    splits: 1,
+    older: 1,
+    other: 1,
+};
+
+/// Equal remainders: one or two weights for all, and codes that decide.
+fn ties(rng: &mut Rng) -> Draft {
+    let terms = whole::terms(rng);
+    let most = rng.pick(&[3, 10, 1_000, MOST_LOTS]);
+    let weights = [rng.between(1, most), rng.between(1, most)];
+    let kinds = rng.between(1, 2) as usize;
+    let count = rng.between(2, 30) as usize;
+    let codes = codes::mixed(rng, count);
+    let groups = codes
+        .into_iter()
+        .map(|code| {
+            let weight = rng.pick(&weights[..kinds]);
+            let on_locked_side = rng.one_in(2);
+            sharing(rng, &terms, code, on_locked_side, weight)
+        })
+        .collect();
+    Draft { terms, groups }
+}
+
+/// A customer that shares in a division with this weight, pending or in any tier.
+fn sharing(rng: &mut Rng, terms: &Terms, code: Vec<u8>, on_locked_side: bool, net: u32) -> Group {
+    let total = if on_locked_side {
+        -terms.reaching(terms.loss_edge, net)
+    } else {
+        let rate = rng.pick(&[terms.tier1_edge, terms.tier2_edge, 0]);
+        terms.reaching(rate, net).max(1)
+    };
+    let at = Position {
+        on_locked_side,
+        net,
+        total,
+    };
+    let mut group = group(rng, terms, code, at, SHALLOW);
+    if on_locked_side {
+        group.unfilled = net;
+    }
+    group
+}
+
+/// Up to 256 customers with a million lots each: total or residue have nine digits.
+fn largest_totals(rng: &mut Rng) -> Draft {
+    let terms = whole::terms(rng);
+    let count = rng.between(200, 256);
+    let pending = rng.between(0, count);
+    let codes = codes::mixed(rng, count as usize);
+    let groups = codes
+        .into_iter()
+        .map(|code| {
+            let on_locked_side = rng.between(1, count) <= pending;
+            let net = MOST_LOTS - rng.between(0, 1);
+            sharing(rng, &terms, code, on_locked_side, net)
+        })
+        .collect();
+    Draft { terms, groups }
+}
+
+/// A whole book whose codes begin one another: A, AA, A0, AAA.
+fn nested_codes(rng: &mut Rng) -> Draft {
+    let mut draft = whole::draft(rng);
+    let codes = codes::nested(rng, draft.groups.len());
+    for (group, code) in draft.groups.iter_mut().zip(codes) {
+        group.code = code;
+    }
+    draft
+}
+
+/// Customers with equal holdings, with and without unfilled lots and trades.
+fn no_net(rng: &mut Rng) -> Draft {
+    let mut draft = whole::draft(rng);
+    for group in &mut draft.groups {
+        if rng.one_in(2) {
+            let both = rng.pick(&[0, 1, group.long.max(group.short), MOST_LOTS]);
+            (group.long, group.short) = (both, both);
+            group.unfilled = rng.pick(&[0, both.min(1), both / 2, both]);
+        }
+        if group.net() == 0 && rng.one_in(4) {
+            group.trades.clear();
+        }
+    }
+    draft
+}
+
+/// Q above the net position, up to all that is held on the locked side.
+fn pending_above_net(rng: &mut Rng) -> Draft {
+    let mut draft = whole::draft(rng);
+    for group in &mut draft.groups {
+        let more = lots(rng).min(MOST_LOTS - group.long.max(group.short));
+        group.long += more;
+        group.short += more;
+        let held = group.locked_held(&draft.terms);
+        let just_above = (group.net() + 1).min(held);
+        group.unfilled = rng.pick(&[just_above, held, group.net().min(held)]);
+    }
+    draft
+}
+
+/// 0, 255, 256 and 257 customers.
+fn customer_count(rng: &mut Rng) -> Draft {
+    let count = rng.pick(&[0, 255, 256, 257]);
+    whole::of_count(rng, count)
+}
+
+/// Every figure at an end of its range.
+fn largest_figures(rng: &mut Rng) -> Draft {
+    let rates = [1, 2, MOST_RATE - 1, MOST_RATE];
+    let tier1_edge = rng.pick(&rates[1..]);
+    let lower: Vec<u32> = rates
+        .into_iter()
+        .filter(|&rate| rate < tier1_edge)
+        .collect();
+    let terms = Terms {
+        down: rng.one_in(2),
+        settlement: rng.pick(&[1, 2, MOST_PRICE / 2, MOST_PRICE - 1, MOST_PRICE]),
+        loss_edge: rng.pick(&rates),
+        tier1_edge,
+        tier2_edge: rng.pick(&lower),
+    };
+    let count = if rng.one_in(30) {
+        256
+    } else {
+        rng.between(1, 8)
+    };
+    let codes = codes::mixed(rng, count as usize);
+    let groups = codes
+        .into_iter()
+        .map(|code| largest_group(rng, &terms, code))
+        .collect();
+    Draft { terms, groups }
+}
+
+fn largest_group(rng: &mut Rng, terms: &Terms, code: Vec<u8>) -> Group {
+    let held = [0, 1, MOST_LOTS - 1, MOST_LOTS];
+    let (long, short) = (rng.pick(&held), rng.pick(&held));
+    // The oldest trade on either side reaches every position.
+    let mut trades = vec![largest_trade(rng, true), largest_trade(rng, false)];
+    trades.iter_mut().for_each(|trade| trade.lots = MOST_LOTS);
+    for _ in 0..rng.between(0, 3) {
+        let bought = rng.one_in(2);
+        trades.push(largest_trade(rng, bought));
+    }
+    let mut group = Group {
+        code,
+        long,
+        short,
+        unfilled: 0,
+        trades,
+    };
+    let most = group.locked_held(terms);
+    group.unfilled = rng.pick(&[0, most.min(1), most, most]);
+    group
+}
+
+fn largest_trade(rng: &mut Rng, bought: bool) -> Trade {
+    Trade {
+        bought,
+        price: rng.pick(&[1, 2, MOST_PRICE - 1, MOST_PRICE]),
+        lots: rng.pick(&[1, MOST_LOTS - 1, MOST_LOTS]),
+    }
+}

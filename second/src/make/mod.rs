@@ -1,0 +1,70 @@
+//! Books generated from a seed, for tests that compare two programs.
+//!
+//! A book is drafted as numbers ([`draft`]), in one of three families: whole books
+//! ([`whole`]), books at the edges of the rules ([`edges`]) and damaged books
+//! ([`damage`]). The generator knows how a book is written but takes no code from
+//! the reader, so a mistake there isn't hidden here. The same seed and index make
+//! the same bytes on every machine.
+
+mod at_price;
+mod codes;
+mod damage;
+mod damage_bytes;
+mod damage_draft;
+mod draft;
+mod edges;
+mod groups;
+mod rng;
+mod sizes;
+mod trades;
+mod whole;
+
+use rng::Rng;
+
+/// What a generated book is meant to try.
+#[derive(Clone, Copy, Debug, PartialEq, Eq, Hash)]
+pub enum Family {
+    /// Accepted by construction, of varied size and content.
+    Whole,
+    /// At an edge of a rule: prices, ties, counts, sizes, largest figures.
+    Edge,
+    /// Of the other families, then damaged in one to three ways.
+    Damaged,
+}
+
+/// A generated book.
+#[derive(Clone, Debug, PartialEq, Eq)]
+pub struct Made {
+    pub family: Family,
+    /// What within the family: the edge, or the first damage.
+    pub kind: &'static str,
+    pub bytes: Vec<u8>,
+}
+
+/// The book of this seed and index. Any index can be made by itself.
+pub fn book(seed: u64, index: u64) -> Made {
+    let rng = &mut Rng::new(seed, index);
+    match rng.below(20) {
+        0..=6 => Made {
+            family: Family::Whole,
+            kind: "whole",
+            bytes: whole::draft(rng).bytes(),
+        },
+        7..=11 => {
+            let (kind, draft) = edges::draft(rng);
+            Made {
+                family: Family::Edge,
+                kind,
+                bytes: draft.bytes(),
+            }
+        }
+        _ => {
+            let (kind, bytes) = damage::book(rng);
+            Made {
+                family: Family::Damaged,
+                kind,
+                bytes,
+            }
+        }
+    }
+}
