@@ -1,0 +1,4 @@
+pub mod Reading
+pub mod Trades
+pub mod Group
+pub mod Ranges

@@ -1,0 +1,3 @@
+-- What the crate's contracts cite, and laws of it for the callers.
+pub mod State
+pub mod After

@@ -1,0 +1,106 @@
+// Customer codes as numbers: equal where the codes are the same, and in the order of their bytes.
+ghost use mathlib.Core.Path.{_≡_};
+ghost use Prim.Native.Nat.{_-_, _^_, _≤_, min, max};
+ghost use lib.ListN.{length, take};
+ghost use Rattle.laws.specs.Keys.{digitOf};
+ghost use Rattle.codes.specs.Codes.{codeOf, givenIn};
+
+pub enum Code {
+    Key(u64),
+    Malformed,
+}
+
+// 37 to the 12, and down to 1.
+const POWERS: [u64; 13] = [
+    6_582_952_005_840_035_281,
+    177_917_621_779_460_413,
+    4_808_584_372_417_849,
+    129_961_739_795_077,
+    3_512_479_453_921,
+    94_931_877_133,
+    2_565_726_409,
+    69_343_957,
+    1_874_161,
+    50_653,
+    1_369,
+    37,
+    1,
+];
+
+fn smaller(x: u8, y: u8) -> u8
+    ensures { λ r. ⌜ r ≡ min x y ⌝ }
+{
+    if x < y { x } else { y }
+}
+
+fn larger(x: u8, y: u8) -> u8
+    ensures { λ r. ⌜ r ≡ max x y ⌝ }
+{
+    if x < y { y } else { x }
+}
+
+// A sum and no branch where a number and a letter differ, since a code mixes them: from 'A' on the number stays at 10.
+fn digit(x: u8) -> u64
+    ensures { λ r. ⌜ r ≡ digitOf x ⌝ }
+{
+    if x < b'0' {
+        return 0;
+    }
+    if b'Z' < x {
+        return 0;
+    }
+    if b'9' < x {
+        if x < b'A' {
+            return 0;
+        }
+    }
+    let number = smaller(x, b'9') - 47;
+    let letter = larger(x, b'@') - b'@';
+    (number + letter) as u64
+}
+
+// What a number of n digits is worth in 12 places, where the rest has none.
+fn padding(n: usize) -> u64
+    requires { ⌜ n ≤ 12 ⌝ }
+    ensures { λ r. ⌜ r ≡ 37 ^ (12 - n) ⌝ }
+{
+    POWERS[n]
+}
+
+pub fn read_code(v: &[u8]) -> Code
+    ensures { λ r. ⌜ r ≡ codeOf (now (v .entry)) ⌝ }
+{
+    let n = v.len();
+    if n == 0 {
+        return Code::Malformed;
+    }
+    if rules::LONGEST_CODE < n {
+        return Code::Malformed;
+    }
+    let mut key: u64 = 0;
+    let mut i = 0;
+    while i < n {
+        let d = digit(v[i]);
+        if d == 0 {
+            return Code::Malformed;
+        }
+        key = key * 37 + d;
+        i += 1;
+    }
+    Code::Key(key * padding(n))
+}
+
+// Whether this key is among the first `count`. No branch in the loop: the keys of a sound book differ, so all are looked at.
+// A reference to an array tells a proof nothing of the length of its list, so that is asked for.
+pub fn given(keys: &[u64; 256], count: usize, key: u64) -> bool
+    requires { ⌜ (count ≤ 256) × (count ≤ length (now keys)) ⌝ }
+    ensures { λ r. ⌜ r ≡ givenIn (take count (now (keys .entry))) key ⌝ }
+{
+    let mut found = false;
+    let mut passed = 0;
+    while passed < count {
+        found = found | (keys[passed] == key);
+        passed += 1;
+    }
+    found
+}

@@ -1,0 +1,101 @@
+-- The lots stand in the array up to i.
+-- Assumes nothing.
+use Prim.Native.Nat.{_-_, _≤_}
+use mathlib.Core.Path.{_≡_, refl}
+use native.Mathlib.Omega.{arith}
+use borrow.Author.Needs.{needs}
+use Rattle.division.proofs.Arrays.{over-map}
+use Rattle.division.proofs.Bounds.{product-le, rest-le, whole-le, inside}
+use Rattle.division.specs.Shares.{at}
+use Rattle.division.specs.Last.{lotsAt, Settled}
+use Rattle.division.proofs.settle.Statement.{statement}
+use Rattle.division.proofs.settle.Tie as tie
+
+abbrev Inv-loop : tie.InvT-loop
+Inv-loop weights keys count x sum lots₀ edge most i₀ lots i = (i ≤ count) × Settled weights keys lots₀ lots i x sum edge most
+
+abbrev μ-loop : tie.MeasureT-loop
+μ-loop weights keys count x sum lots₀ edge most i₀ lots i = count - i
+
+loop-holds : tie.Need-loop-holds Inv-loop μ-loop
+loop-holds c = (search needs, record { settled = refl })
+
+mul-product : tie.Need-mul-product Inv-loop μ-loop
+mul-product c = search needs
+
+element-copy-out-product : tie.Need-element-copy-out-product Inv-loop μ-loop
+element-copy-out-product c = search needs
+
+mul-product-2 : tie.Need-mul-product-2 Inv-loop μ-loop
+mul-product-2 c = omega (arith, product-le (c .before .before .before .pre) (c .before .before .loop .i) (omega arith))
+
+div-lots : tie.Need-div-lots Inv-loop μ-loop
+div-lots c = search needs
+
+rem-one-more : tie.Need-rem-one-more Inv-loop μ-loop
+rem-one-more c = search needs
+
+sub-one-more : tie.Need-sub-one-more Inv-loop μ-loop
+sub-one-more c = rest-le (c .before .before .before .pre) (c .before .before .loop .i)
+
+mul-one-more : tie.Need-mul-one-more Inv-loop μ-loop
+mul-one-more c = search needs
+
+element-copy-out-one-more : tie.Need-element-copy-out-one-more Inv-loop μ-loop
+element-copy-out-one-more c = search needs
+
+one-more-requires : tie.Need-one-more-requires Inv-loop μ-loop
+one-more-requires c κs = search needs
+
+add-lots : tie.Need-add-lots Inv-loop μ-loop
+add-lots c =
+    omega (arith, whole-le (c .before .before .before .before .before .pre) (c .before .before .before .before .loop .i) (omega arith))
+
+mul-lots : tie.Need-mul-lots Inv-loop μ-loop
+mul-lots c = search needs
+
+element-write-lots : tie.Need-element-write-lots Inv-loop μ-loop
+element-write-lots c = search needs
+
+add-i : tie.Need-add-i Inv-loop μ-loop
+add-i c = search needs
+
+loop-less : tie.Need-loop-less Inv-loop μ-loop
+loop-less c = search needs
+
+loop-again : tie.Need-loop-again Inv-loop μ-loop
+unfolding lotsAt
+loop-again c =
+    let s = c .before .before .before .before .before in
+    let l = c .before .before .before .before .loop in
+    let a = s .args in
+    let lots = lotsAt (a .weights .now) (a .keys .now) (a .x) (a .sum) (a .last .lack) (a .last .key) in
+    let more = over-map lots (a .lots .now) (l .i) (inside (s .pre) (l .i) (omega arith)) in
+    (search needs, record { settled = rw (l .inv .1 .settled, c .one-more .ensures .0) more })
+
+returns : tie.Need-returns Inv-loop μ-loop
+returns c = let e : c .before .loop .i ≡ c .before .before .args .count = omega arith in rw e at (c .before .loop .inv .1)
+
+pub settle-spec : {M : Type 1} → statement M
+settle-spec =
+    tie.close
+    (tie.spec
+    Inv-loop
+    μ-loop
+    loop-holds
+    mul-product
+    element-copy-out-product
+    mul-product-2
+    div-lots
+    rem-one-more
+    sub-one-more
+    mul-one-more
+    element-copy-out-one-more
+    one-more-requires
+    add-lots
+    mul-lots
+    element-write-lots
+    add-i
+    loop-less
+    loop-again
+    returns)

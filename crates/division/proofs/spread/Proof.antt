@@ -1,0 +1,94 @@
+-- What each lacks stands in the array up to i, and the whole parts are summed up to i.
+-- Assumes nothing.
+use Prim.Native.Nat.{_-_, _≤_}
+use mathlib.Core.Path.{_≡_, refl}
+use native.Mathlib.Omega.{arith}
+use borrow.Author.Needs.{needs}
+use Rattle.laws.specs.Indices.{sum-more}
+use Rattle.division.proofs.Arrays.{over-map}
+use Rattle.division.proofs.Bounds.{product-le, rest-le, whole-le, wholes-le, inside}
+use Rattle.division.specs.Shares.{at}
+use Rattle.division.specs.Last.{lackAt, Spread}
+use Rattle.division.proofs.spread.Statement.{statement}
+use Rattle.division.proofs.spread.Tie as tie
+
+abbrev Inv-loop : tie.InvT-loop
+Inv-loop weights count x sum lots₀ whole₀ i₀ lots whole i = (i ≤ count) × Spread weights lots₀ lots i x sum whole
+
+abbrev μ-loop : tie.MeasureT-loop
+μ-loop weights count x sum lots₀ whole₀ i₀ lots whole i = count - i
+
+loop-holds : tie.Need-loop-holds Inv-loop μ-loop
+loop-holds c = (search needs, record { whole = refl; lacks = refl })
+
+mul-product : tie.Need-mul-product Inv-loop μ-loop
+mul-product c = search needs
+
+element-copy-out-product : tie.Need-element-copy-out-product Inv-loop μ-loop
+element-copy-out-product c = search needs
+
+mul-product-2 : tie.Need-mul-product-2 Inv-loop μ-loop
+mul-product-2 c = omega (arith, product-le (c .before .before .before .pre) (c .before .before .loop .i) (omega arith))
+
+rem-lots : tie.Need-rem-lots Inv-loop μ-loop
+rem-lots c = search needs
+
+sub-lots : tie.Need-sub-lots Inv-loop μ-loop
+sub-lots c = rest-le (c .before .before .before .pre) (c .before .before .loop .i)
+
+mul-lots : tie.Need-mul-lots Inv-loop μ-loop
+mul-lots c = search needs
+
+element-write-lots : tie.Need-element-write-lots Inv-loop μ-loop
+element-write-lots c = search needs
+
+div-whole : tie.Need-div-whole Inv-loop μ-loop
+div-whole c = search needs
+
+add-whole : tie.Need-add-whole Inv-loop μ-loop
+add-whole c =
+    let r = c .before .before .before .pre in
+    let l = c .before .before .loop in
+    omega (arith, l .inv .1 .whole, wholes-le r (l .i) (omega arith), whole-le r (l .i) (omega arith), r .asked .bounded .few)
+
+add-i : tie.Need-add-i Inv-loop μ-loop
+add-i c = search needs
+
+loop-less : tie.Need-loop-less Inv-loop μ-loop
+loop-less c = search needs
+
+loop-again : tie.Need-loop-again Inv-loop μ-loop
+loop-again c =
+    let s = c .before .before .before in
+    let l = c .before .before .loop in
+    let lack = lackAt (s .args .weights .now) (s .args .x) (s .args .sum) in (
+      search needs,
+      record {
+        whole = rw sum-more (omega (arith, l .inv .1 .whole));
+        lacks = rw (l .inv .1 .lacks) (over-map lack (s .args .lots .now) (l .i) (inside (s .pre) (l .i) (omega arith)));
+      },
+    )
+
+returns : tie.Need-returns Inv-loop μ-loop
+returns c = let e : c .before .loop .i ≡ c .before .before .args .count = omega arith in rw e at (c .before .loop .inv .1)
+
+pub spread-spec : {M : Type 1} → statement M
+spread-spec =
+    tie.close
+    (tie.spec
+    Inv-loop
+    μ-loop
+    loop-holds
+    mul-product
+    element-copy-out-product
+    mul-product-2
+    rem-lots
+    sub-lots
+    mul-lots
+    element-write-lots
+    div-whole
+    add-whole
+    add-i
+    loop-less
+    loop-again
+    returns)

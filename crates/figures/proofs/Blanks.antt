@@ -1,0 +1,39 @@
+-- The two parts of a trade's value, by the place of its first blank.
+-- Assumes nothing.
+use Prim.Native.Nat.{ℕ, _+_, _<_, _≤_}
+use Prim.Native.Char.{code}
+use mathlib.Core.Path.{_≡_, refl, ap, _∙_}
+use mathlib.Core.List.{List, [], _∷_, _++_}
+use native.Mathlib.Omega.{arith}
+use borrow.Author.Tests.{eqb-true}
+use lib.ListN.{length, take, drop}
+use Rattle.figures.proofs.Lists.{by-test}
+use lib.Seq.{take-append-seam, drop-append-add}
+use Rattle.rules.specs.Text.{is}
+use Rattle.rules.specs.Figures.{upToBlank, afterBlank}
+
+-- a value with a blank in it is what stands before the first, the blank, and the rest
+pub blank-inside : (v : List ℕ) → length (upToBlank v) < length v → v ≡ upToBlank v ++ (code " " ∷ afterBlank v)
+blank-inside [] h = absurd (omega arith)
+blank-inside (x ∷ v) h =
+    by-test (is " " x)
+    (λ e. simp e (ap (λ (y : ℕ). y ∷ v) (eqb-true x (code " ") e)))
+    (λ e. simp e (ap (λ (l : List ℕ). x ∷ l) (blank-inside v (omega (arith, simp e at h)))))
+
+pub up-to-blank : (v : List ℕ) (p : ℕ) → p ≡ length (upToBlank v) → p < length v → take p v ≡ upToBlank v
+up-to-blank v p e h =
+    let u = upToBlank v in
+    ap (λ (n : ℕ). take n v) e ∙ ap (take (length u)) (blank-inside v (omega arith)) ∙ take-append-seam u _
+
+pub after-blank : (v : List ℕ) (p : ℕ) → p ≡ length (upToBlank v) → p < length v → drop (p + 1) v ≡ afterBlank v
+after-blank v p e h =
+    let u = upToBlank v in
+    ap (λ (n : ℕ). drop (n + 1) v) e ∙ ap (drop (length u + 1)) (blank-inside v (omega arith)) ∙ drop-append-add u _ 1
+
+-- and one without has nothing after it
+pub nothing-after : (v : List ℕ) → length v ≤ length (upToBlank v) → afterBlank v ≡ []
+nothing-after [] h = refl
+nothing-after (x ∷ v) h =
+    by-test (is " " x)
+    (λ e. absurd (omega (arith, simp e at h)))
+    (λ e. simp e (nothing-after v (omega (arith, simp e at h))))

@@ -1,0 +1,36 @@
+-- A figure by its number, with the comma asked for only where there is none: what has a number has no comma.
+-- Assumes nothing.
+use Prim.Native.Nat.{ℕ}
+use mathlib.Core.Path.{_≡_, refl}
+use mathlib.Core.Bool.{Bool, true, false, cond, _&&_, and-eq-true-iff}
+use mathlib.Core.List.{List}
+use Rattle.rules.specs.declared.Form.{Form}
+use Rattle.rules.specs.declared.Figure.{Figure}
+use Rattle.rules.specs.declared.Figure.the-variants.{Value, Comma, Malformed}
+use Rattle.rules.specs.Figures.{figureOf, has, formed, inRange, number}
+use Rattle.figures.proofs.Numbers.{counted}
+use Rattle.figures.proofs.Commas.{formed-no-comma}
+use Rattle.figures.specs.declared.number.Digits.{Digits}
+use Rattle.figures.specs.declared.number.Digits.the-variants.{Number, Other}
+use Rattle.figures.specs.Numbers.{numberOf}
+
+-- a figure of this number; where there is none, the comma tells
+abbrev pub figureBy : Bool → Digits → Figure
+figureBy comma (Number n) = Value n
+figureBy comma Other = cond comma Comma Malformed
+
+sifted :
+    (comma good fits : Bool) (n : ℕ) → (good ≡ true → comma ≡ false) →
+    cond comma Comma (cond (good && fits) (Value n) Malformed) ≡ figureBy comma (cond (good && fits) (Number n) Other)
+sifted comma true true n h = simp (h refl)
+sifted comma true false n h = refl
+sifted comma false fits n h = refl
+
+pub by-number : (form : Form) (v : List ℕ) → figureOf form v ≡ figureBy (has "," v) (numberOf form v)
+unfolding figureOf
+by-number form v = sifted (has "," v) (formed form v) (inRange form (number form v)) (number form v) (formed-no-comma form v)
+
+pub number-no-comma : (form : Form) (v : List ℕ) (n : ℕ) → numberOf form v ≡ Number n → has "," v ≡ false
+number-no-comma form v n e =
+    let good = counted (formed form v && inRange form (number form v)) (number form v) n e .0 in
+    formed-no-comma form v (and-eq-true-iff (formed form v) (inRange form (number form v)) .0 good .0)

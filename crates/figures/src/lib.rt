@@ -1,0 +1,137 @@
+// Reads the figures of a book, and the value of a trade, which is two of them. A figure that is well formed has no comma,
+// so a comma is looked for only in a value that could not be read.
+ghost use mathlib.Core.Path.{_≡_};
+ghost use Prim.Native.Nat.{_+_, _≤_, _<_};
+ghost use lib.ListN.{length};
+ghost use Rattle.rules.specs.Figures.{figureOf, openingOf, priceForm, rateForm, heldForm, has, upToBlank};
+ghost use Rattle.figures.specs.Numbers.{noOpening};
+
+mod number;
+
+use number::Digits;
+use number::read_number;
+use rules::Fen;
+use rules::Figure;
+use rules::Form;
+use rules::Lots;
+use rules::Opening;
+use rules::Trade;
+
+const PRICE: Form = Form {
+    whole: 5,
+    decimals: 2,
+    least: 1, // 0.01
+    most: 9_999_999, // 99999.99
+};
+
+const RATE: Form = Form {
+    whole: 2,
+    decimals: 3,
+    least: 1, // 0.001
+    most: 99_999, // 99.999
+};
+
+// Lots in K, H and Q.
+const HELD: Form = Form {
+    whole: 7,
+    decimals: 0,
+    least: 0,
+    most: 1_000_000,
+};
+
+// Lots in a trade.
+const TRADED: Form = Form {
+    whole: 7,
+    decimals: 0,
+    least: 1,
+    most: 1_000_000,
+};
+
+fn has_comma(v: &[u8]) -> bool
+    ensures { λ r. ⌜ r ≡ has "," (now (v .entry)) ⌝ }
+{
+    let mut i = 0;
+    while i < v.len() {
+        if v[i] == b',' {
+            return true;
+        }
+        i += 1;
+    }
+    false
+}
+
+pub fn read_figure(v: &[u8], form: Form) -> Figure
+    requires { ⌜ form .whole + form .decimals ≤ 9 ⌝ }
+    ensures { λ r. ⌜ r ≡ figureOf form (now (v .entry)) ⌝ }
+{
+    let Digits::Number(n) = read_number(v, form) else {
+        if has_comma(v) {
+            return Figure::Comma;
+        }
+        return Figure::Malformed;
+    };
+    Figure::Value(n)
+}
+
+pub fn read_price(v: &[u8]) -> Figure
+    ensures { λ r. ⌜ r ≡ figureOf priceForm (now (v .entry)) ⌝ }
+{
+    read_figure(v, PRICE)
+}
+
+pub fn read_rate(v: &[u8]) -> Figure
+    ensures { λ r. ⌜ r ≡ figureOf rateForm (now (v .entry)) ⌝ }
+{
+    read_figure(v, RATE)
+}
+
+pub fn read_held(v: &[u8]) -> Figure
+    ensures { λ r. ⌜ r ≡ figureOf heldForm (now (v .entry)) ⌝ }
+{
+    read_figure(v, HELD)
+}
+
+// The place of the first blank, or the length.
+fn find_blank(v: &[u8]) -> usize
+    ensures { λ r. ⌜ r ≡ length (upToBlank (now (v .entry))) ⌝ }
+{
+    let mut i = 0;
+    while i < v.len() {
+        if v[i] == b' ' {
+            return i;
+        }
+        i += 1;
+    }
+    i
+}
+
+fn no_opening(v: &[u8]) -> Opening
+    ensures { λ r. ⌜ r ≡ noOpening (now (v .entry)) ⌝ }
+{
+    if has_comma(v) {
+        Opening::Comma
+    } else {
+        Opening::Malformed
+    }
+}
+
+// The value of a B, which is bought, or of an A: a price, one blank, lots.
+pub fn read_opening(v: &[u8], bought: bool) -> Opening
+    ensures { λ r. ⌜ r ≡ openingOf bought (now (v .entry)) ⌝ }
+{
+    let blank = find_blank(v);
+    if v.len() <= blank {
+        return no_opening(v);
+    }
+    let Digits::Number(price) = read_number(&v[..blank], PRICE) else {
+        return no_opening(v);
+    };
+    let Digits::Number(lots) = read_number(&v[blank + 1..], TRADED) else {
+        return no_opening(v);
+    };
+    Opening::Made(Trade {
+        bought,
+        price: Fen(price),
+        lots: Lots(lots),
+    })
+}

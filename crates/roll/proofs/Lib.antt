@@ -1,0 +1,3 @@
+-- What a turn of the loop over customers comes to, over plain lists.
+pub mod Named
+pub mod Turns
