@@ -79,27 +79,6 @@ pub enum GroupAt {
     Refused(Refusal),
 }
 
-const PRICE: Form = Form {
-    whole: 5,
-    decimals: 2,
-    least: 1,
-    most: 9_999_999,
-};
-
-const RATE: Form = Form {
-    whole: 2,
-    decimals: 3,
-    least: 1,
-    most: 99_999,
-};
-
-const HELD: Form = Form {
-    whole: 7,
-    decimals: 0,
-    least: 0,
-    most: 1_000_000,
-};
-
 fn refusal_in(f: FigureAt) -> Refusal
     ensures { λ r. ⌜ r ≡ refusalIn f ⌝ }
 {
@@ -189,7 +168,7 @@ pub fn read_terms(book: &[u8]) -> TermsAt
 fn terms_after(book: &[u8], down: bool, at: usize) -> TermsAt
     ensures { λ r. ⌜ r ≡ afterLock (now (book .entry)) down at ⌝ }
 {
-    let s = figure_at(book, at, b'S', PRICE);
+    let s = figure_at(book, at, b'S', figures::PRICE);
     let FigureAt::Value {
         number: price,
         next: at_l,
@@ -197,7 +176,7 @@ fn terms_after(book: &[u8], down: bool, at: usize) -> TermsAt
     else {
         return TermsAt::Refused(refusal_in(s));
     };
-    let l = figure_at(book, at_l, b'L', RATE);
+    let l = figure_at(book, at_l, b'L', figures::RATE);
     let FigureAt::Value {
         number: loss,
         next: at_u,
@@ -205,7 +184,7 @@ fn terms_after(book: &[u8], down: bool, at: usize) -> TermsAt
     else {
         return TermsAt::Refused(refusal_in(l));
     };
-    let u = figure_at(book, at_u, b'U', RATE);
+    let u = figure_at(book, at_u, b'U', figures::RATE);
     let FigureAt::Value {
         number: edge1,
         next: at_v,
@@ -213,7 +192,7 @@ fn terms_after(book: &[u8], down: bool, at: usize) -> TermsAt
     else {
         return TermsAt::Refused(refusal_in(u));
     };
-    let v = figure_at(book, at_v, b'V', RATE);
+    let v = figure_at(book, at_v, b'V', figures::RATE);
     let FigureAt::Value {
         number: edge2,
         next,
@@ -254,7 +233,7 @@ fn overdrawn_by(terms: Terms, position: Position) -> bool
 fn read_position(book: &[u8], terms: Terms, at: usize) -> PositionAt
     ensures { λ r. ⌜ r ≡ positionOf (now (book .entry)) terms at ⌝ }
 {
-    let k = figure_at(book, at, b'K', HELD);
+    let k = figure_at(book, at, b'K', figures::HELD);
     let FigureAt::Value {
         number: long,
         next: at_h,
@@ -262,7 +241,7 @@ fn read_position(book: &[u8], terms: Terms, at: usize) -> PositionAt
     else {
         return PositionAt::Refused(refusal_in(k));
     };
-    let h = figure_at(book, at_h, b'H', HELD);
+    let h = figure_at(book, at_h, b'H', figures::HELD);
     let FigureAt::Value {
         number: short,
         next: at_q,
@@ -270,7 +249,7 @@ fn read_position(book: &[u8], terms: Terms, at: usize) -> PositionAt
     else {
         return PositionAt::Refused(refusal_in(h));
     };
-    let q = figure_at(book, at_q, b'Q', HELD);
+    let q = figure_at(book, at_q, b'Q', figures::HELD);
     let FigureAt::Value {
         number: unfilled,
         next,

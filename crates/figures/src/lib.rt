@@ -17,14 +17,14 @@ use rules::Lots;
 use rules::Opening;
 use rules::Trade;
 
-const PRICE: Form = Form {
+pub const PRICE: Form = Form {
     whole: 5,
     decimals: 2,
     least: 1, // 0.01
     most: 9_999_999, // 99999.99
 };
 
-const RATE: Form = Form {
+pub const RATE: Form = Form {
     whole: 2,
     decimals: 3,
     least: 1, // 0.001
@@ -32,7 +32,7 @@ const RATE: Form = Form {
 };
 
 // Lots in K, H and Q.
-const HELD: Form = Form {
+pub const HELD: Form = Form {
     whole: 7,
     decimals: 0,
     least: 0,
@@ -71,24 +71,6 @@ pub fn read_figure(v: &[u8], form: Form) -> Figure
         return Figure::Malformed;
     };
     Figure::Value(n)
-}
-
-pub fn read_price(v: &[u8]) -> Figure
-    ensures { λ r. ⌜ r ≡ figureOf priceForm (now (v .entry)) ⌝ }
-{
-    read_figure(v, PRICE)
-}
-
-pub fn read_rate(v: &[u8]) -> Figure
-    ensures { λ r. ⌜ r ≡ figureOf rateForm (now (v .entry)) ⌝ }
-{
-    read_figure(v, RATE)
-}
-
-pub fn read_held(v: &[u8]) -> Figure
-    ensures { λ r. ⌜ r ≡ figureOf heldForm (now (v .entry)) ⌝ }
-{
-    read_figure(v, HELD)
 }
 
 // The place of the first blank, or the length.

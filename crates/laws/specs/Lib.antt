@@ -9,6 +9,8 @@ pub mod Keys
 pub mod Blocks
 pub mod Fields
 pub mod Groups
+pub mod Keeps
+pub mod Sane
 pub mod Exact
 pub mod Gains
 pub mod Division

@@ -39,7 +39,7 @@ pub fn put_bytes(out: &mut [u8], at: usize, s: &[u8]) -> usize
     at + i
 }
 
-pub fn digits_length(n: u64) -> usize
+fn digits_length(n: u64) -> usize
     ensures { λ r. ⌜ (r ≡ length (digits n)) × (r ≤ 20) ⌝ }
 {
     let mut rest = n;
@@ -68,7 +68,7 @@ fn fill_digits(out: &mut [u8], at: usize, count: usize, n: u64) -> usize
     at + count
 }
 
-pub fn put_digits(out: &mut [u8], at: usize, n: u64) -> usize
+fn put_digits(out: &mut [u8], at: usize, n: u64) -> usize
     requires { ⌜ Room at (digits n) (now out) ⌝ }
     ensures { λ r. ⌜ Wrote at (digits n) (now (out .entry)) (now (out .exit)) r ⌝ }
 {
@@ -84,7 +84,7 @@ fn put_tag(out: &mut [u8], at: usize, tag: u8, count: usize) -> usize
     put_three(out, at, tag, (count / 256) as u8, (count % 256) as u8)
 }
 
-pub fn put_field(out: &mut [u8], at: usize, tag: u8, s: &[u8]) -> usize
+fn put_field(out: &mut [u8], at: usize, tag: u8, s: &[u8]) -> usize
     requires { ⌜ length (now s) < 65536 ⌝ }
     requires { ⌜ Room at (tagged tag (now s)) (now out) ⌝ }
     ensures { λ r. ⌜ Wrote at (tagged tag (now (s .entry))) (now (out .entry)) (now (out .exit)) r ⌝ }
@@ -93,7 +93,7 @@ pub fn put_field(out: &mut [u8], at: usize, tag: u8, s: &[u8]) -> usize
     put_bytes(out, value, s)
 }
 
-pub fn put_number_field(out: &mut [u8], at: usize, tag: u8, n: u64) -> usize
+fn put_number_field(out: &mut [u8], at: usize, tag: u8, n: u64) -> usize
     requires { ⌜ Room at (tagged tag (digits n)) (now out) ⌝ }
     ensures { λ r. ⌜ Wrote at (tagged tag (digits n)) (now (out .entry)) (now (out .exit)) r ⌝ }
 {

@@ -1,0 +1,2 @@
+-- Laws that the crate's proofs cite.
+mod First

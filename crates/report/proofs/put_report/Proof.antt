@@ -1,0 +1,134 @@
+-- `report::put_report` meets its contract. Behind the head stand the lines before i, and the next line joins them.
+-- Assumes nothing.
+use Prim.Native.Nat.{_+_, _-_, _*_, _≤_}
+use mathlib.Core.Path.{_≡_, refl, sym}
+use native.Mathlib.Omega.{arith}
+use borrow.Author.Needs.{needs}
+use mathlib.Core.List.{_++_}
+use lib.ListN.{length, getD, length-append}
+use Rattle.writing.specs.Pieces.{reportHead}
+use Rattle.rules.specs.Report.{reported}
+use Rattle.writing.specs.Written.{Room, Wrote, join, written-nothing}
+use Rattle.report.specs.Lines.{lineAt, reportBytes}
+use Rattle.report.proofs.First.{lineIn, first, piece-room, piece-joins, size-back, code-length}
+use Rattle.report.proofs.put_report.Statement.{statement}
+use Rattle.report.proofs.put_report.Tie as tie
+
+abbrev Inv-loop : tie.InvT-loop
+Inv-loop out₀ count sizes codes rows at₀ i₀ out at i = (i ≤ count) × (length out ≡ length out₀) × Wrote at₀ (first reported (lineIn sizes codes rows) i) out₀ out at
+
+abbrev μ-loop : tie.MeasureT-loop
+μ-loop out₀ count sizes codes rows at₀ i₀ out at i = count - i
+
+-- the head and the customers fit
+room : (c : tie.Start Inv-loop μ-loop) → let l = c .args .l in
+    Room 0 (reportHead (l .total) (l .residue) ++ first reported (lineAt l) (l .count)) (c .args .out .now)
+unfolding reportBytes first
+room c = c .pre .1
+
+put-head-requires : tie.Need-put-head-requires Inv-loop μ-loop
+put-head-requires c κs =
+    let s = c .before .before .before .before .before in let l = s .args .l in
+    omega (arith, room s, length-append (reportHead (l .total) (l .residue)) (first reported (lineAt l) (l .count)))
+
+loop-holds : tie.Need-loop-holds Inv-loop μ-loop
+unfolding first
+loop-holds c = (search needs, refl, record { whole = sym (written-nothing (c .before .before .put-head .result) (c .before .before .put-head .last .0)); next = omega arith })
+
+mul-row : tie.Need-mul-row Inv-loop μ-loop
+mul-row c = search needs
+
+array-copy-out-row : tie.Need-array-copy-out-row Inv-loop μ-loop
+array-copy-out-row c = search needs
+
+mul-start : tie.Need-mul-start Inv-loop μ-loop
+mul-start c = search needs
+
+array-read-end : tie.Need-array-read-end Inv-loop μ-loop
+array-read-end c = search needs
+
+cast-end : tie.Need-cast-end Inv-loop μ-loop
+cast-end c = search needs
+
+add-end : tie.Need-add-end Inv-loop μ-loop
+add-end c = let s = c .before .before .before .before .before .before .before .before .before .before .before in let i = c .before .before .loop .customer in omega (arith, s .pre .0 .few, s .pre .0 .short i (omega arith))
+
+sub-put-reported : tie.Need-sub-put-reported Inv-loop μ-loop
+sub-put-reported c = omega arith
+
+part-put-reported-start : tie.Need-part-put-reported-start Inv-loop μ-loop
+part-put-reported-start c = search needs
+
+part-put-reported-end : tie.Need-part-put-reported-end Inv-loop μ-loop
+part-put-reported-end c =
+    let s = c .before .before .before .before .before .before .before .before .before .before .before .before .before in
+    let i = c .before .before .before .before .loop .customer in
+    let size : length (s .args .l .codes) ≡ 3072 = search needs in
+    let short : getD (s .args .l .sizes) i 0 ≤ 12 = s .pre .0 .short i (omega arith) in
+    let ends : 12 * i + getD (s .args .l .sizes) i 0 ≤ length (s .args .l .codes) = omega (arith, s .pre .0 .few, size, short) in
+    ends
+
+put-reported-requires : tie.Need-put-reported-requires Inv-loop μ-loop
+put-reported-requires c κs =
+    let b = c .before .before .before .before .before in
+    let h = b .before .before .before in
+    let s = h .before .before .before .before .before .before in
+    let l = s .args .l in
+    let i = b .loop .customer in
+    rw (size-back (12 * i) (getD (l .sizes) i 0)) (
+      omega (arith, code-length (l .sizes) (l .codes) i (search needs) (omega (arith, s .pre .0 .few)) (s .pre .0 .short i (omega arith)), s .pre .0 .short i (omega arith)),
+      piece-room reported (lineAt l) (l .count) i (h .put-head .ensures) (b .loop .inv .2) (room s) (omega arith) (omega arith),
+    )
+
+add-customer : tie.Need-add-customer Inv-loop μ-loop
+add-customer c = search needs
+
+loop-less : tie.Need-loop-less Inv-loop μ-loop
+loop-less c = search needs
+
+loop-again : tie.Need-loop-again Inv-loop μ-loop
+loop-again c =
+    let b = c .before .before .before .before .before .before .before .before in
+    let h = b .before .before .before in
+    let s = h .before .before .before .before .before .before in
+    let l = s .args .l in
+    let i = b .loop .customer in
+    let put = rw (size-back (12 * i) (getD (l .sizes) i 0)) at (c .before .before .put-reported .ensures) in
+    (search needs, omega arith, piece-joins reported (lineAt l) i (b .loop .inv .2) put (omega (arith, room s, h .put-head .ensures .next, length-append (reportHead (l .total) (l .residue)) (first reported (lineAt l) (l .count)))))
+
+same-length : tie.Need-same-length Inv-loop μ-loop
+same-length c = search needs
+
+returns : tie.Need-returns Inv-loop μ-loop
+unfolding reportBytes first
+returns c =
+    let b = c .before in
+    let h = b .before .before .before in
+    let s = h .before .before .before .before .before .before in
+    let l = s .args .l in
+    let e : b .loop .customer ≡ l .count = omega arith in
+    join (h .put-head .ensures) (rw e at (b .loop .inv .2)) (omega arith)
+
+pub put-report-spec : {M : Type 1} → statement M
+put-report-spec =
+    tie.close
+    (tie.spec
+    Inv-loop
+    μ-loop
+    put-head-requires
+    loop-holds
+    mul-row
+    array-copy-out-row
+    mul-start
+    array-read-end
+    cast-end
+    add-end
+    sub-put-reported
+    part-put-reported-start
+    part-put-reported-end
+    put-reported-requires
+    add-customer
+    loop-less
+    loop-again
+    same-length
+    returns)

@@ -1,0 +1,75 @@
+#!/usr/bin/env python3
+"""Writes the sample books of this folder, each with the listing that document 01 gives it: NAME.book and NAME.txt.
+
+The listings are written out here by hand, from document 01, and not taken from any program. Run it in this folder."""
+
+
+def field(tag, value):
+    value = value if isinstance(value, bytes) else value.encode()
+    return tag.encode() + bytes(divmod(len(value), 256)) + value
+
+
+def terms(lock="D", s="400.00", l="8.000", u="8.000", v="4.000"):
+    return field("D", lock) + field("S", s) + field("L", l) + field("U", u) + field("V", v)
+
+
+def customer(code, k, h, q, *trades):
+    return field("C", code) + field("K", k) + field("H", h) + field("Q", q) + b"".join(field(t, v) for t, v in trades)
+
+
+END = field("Z", "")
+
+
+def listing(l="8.000"):
+    return (
+        terms(l=l)
+        + customer("W3", "0", "1", "0", ("A", "410.00 1"))
+        + customer("P2", "4", "0", "4", ("B", "440.00 4"))
+        + customer("W1", "0", "3", "0", ("A", "440.00 3"))
+        + customer("P1", "8", "2", "6", ("B", "440.00 8"), ("A", "440.00 2"))
+        + customer("W2", "0", "5", "0", ("A", "420.00 5"))
+        + END
+    )
+
+
+def crowd(n):
+    """n customers without a position, of 19 bytes each."""
+    return b"".join(customer(f"{1000 + i}", "0", "0", "0") for i in range(n))
+
+
+def sized(size):
+    """A sound book of exactly so many bytes: one customer without a position, trades of 9 bytes, and one that is longer."""
+    head = terms() + customer("A", "0", "0", "0")
+    left = size - len(head) - len(END)
+    count = left // 9 - 1
+    value = left - 9 * count - 3  # from 6 to 14 bytes
+    price = min(8, value - 2)
+    last = "1" * (price - 3) + ".00 " + "1" * (value - 1 - price)
+    book = head + field("B", "1.00 1") * count + field("B", last) + END
+    assert len(book) == size
+    return book
+
+
+NOTHING = "total 0\nleft 0\n"
+BOOKS = {
+    "listing": (listing(), "total 9\nleft 1\nW3 3 1\nP2 P 3\nW1 1 3\nP1 P 6\nW2 2 5\n"),
+    "empty": (terms() + END, NOTHING),
+    "refused-1-too-long": (sized(60_001), "refused 1 at 0\n"),
+    "refused-2-cut": (terms()[:-1], "refused 2 at 29\n"),
+    "refused-3-tag": (terms() + field("X", ""), "refused 3 at 37\n"),
+    "refused-4-comma": (listing("8,000"), "refused 4 at 13\n"),
+    "refused-5-form": (terms(s="00.01") + END, "refused 5 at 4\n"),
+    "refused-6-edges": (terms(u="4.000") + END, "refused 6 at 29\n"),
+    "refused-7-twice": (terms() + customer("A", "0", "0", "0") * 2 + END, "refused 7 at 53\n"),
+    "refused-8-unfilled": (terms() + customer("A", "5", "0", "6", ("B", "400.00 5")) + END, "refused 8 at 49\n"),
+    "refused-9-trades": (terms() + customer("A", "5", "0", "0", ("B", "400.00 4")) + END, "refused 9 at 37\n"),
+    "refused-10-customers": (terms() + crowd(257) + END, "refused 10 at 4901\n"),
+    "customers-256": (terms() + crowd(256) + END, NOTHING + "".join(f"{1000 + i} N 0\n" for i in range(256))),
+    "bytes-60000": (sized(60_000), NOTHING + "A N 0\n"),
+}
+
+for name, (book, text) in BOOKS.items():
+    with open(f"{name}.book", "wb") as f:
+        f.write(book)
+    with open(f"{name}.txt", "w", encoding="ascii") as f:
+        f.write(text)
