@@ -123,11 +123,11 @@ pub fn allot(book: &[u8], report: &mut [u8]) -> Answer
     ensures { λ r. ⌜ Answered (answer (now (book .entry)) (length (now (report .entry)))) r (now (report .entry)) (now (report .exit)) ⌝ }
 {
     let worked = work_out(book);
-    let refusal = worked.refusal;
-    if refusal.number != 0 {
+    let refused = worked.refusal;
+    if refused.number != 0 {
         return Answer {
-            number: refusal.number,
-            place: refusal.place as u64,
+            number: refused.number,
+            place: refused.place as u64,
             length: 0,
         };
     }
@@ -149,9 +149,9 @@ pub fn list(book: &[u8], out: &mut [u8]) -> usize
     ensures { λ r. ⌜ Listed (listing (now (book .entry))) (now (out .entry)) (now (out .exit)) r ⌝ }
 {
     let worked = work_out(book);
-    let refusal = worked.refusal;
-    if refusal.number != 0 {
-        return writing::put_refusal(out, refusal.number, refusal.place as u64);
+    let stopped = worked.refusal;
+    if stopped.number != 0 {
+        return writing::put_refusal(out, stopped.number, stopped.place as u64);
     }
     let lines = worked.lines;
     report::put_listing(out, lines)
