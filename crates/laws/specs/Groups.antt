@@ -9,19 +9,11 @@ use lib.ListN.{length, drop}
 use lib.Dec.{eqb}
 use native.Mathlib.Omega.{arith}
 use Rattle.rules.specs.declared.Terms.{Terms}
-use Rattle.rules.specs.declared.Lots.{Lots}
-use Rattle.rules.specs.declared.Position.{Position}
-use Rattle.rules.specs.declared.Trade.{Trade}
-use Rattle.rules.specs.declared.Figure.{Figure}
-use Rattle.rules.specs.declared.Figure.the-variants.{Value, Comma, Malformed}
-use Rattle.rules.specs.declared.Opening.{Opening}
-use Rattle.rules.specs.declared.Opening.the-variants.{Made}
-use Rattle.rules.specs.declared.Opening.the-variants.{Comma as CommaIn}
-use Rattle.rules.specs.declared.Opening.the-variants.{Malformed as NoTrade}
 use Rattle.rules.specs.Text.{is}
-use Rattle.rules.specs.Figures.{figureOf, openingOf, heldForm, lots}
+use Rattle.rules.specs.Figures.{openingOf, heldForm, lots}
 use Rattle.rules.specs.Fields.{Field, Whole, Cut, fieldsOf}
 use Rattle.laws.specs.Fields.{fields-next}
+use Rattle.laws.specs.Keeps.{Keeps, must-keeps, refuse-keeps, figure-keeps, trade-keeps}
 use Rattle.rules.specs.Book.{
   Customer,
   uncovered,
@@ -97,39 +89,21 @@ Somebody (Short code k h) = Unit
 Somebody (Trading c) = Unit
 
 -- no field of a group is refused with 9, and a group stays somebody's
-pub data Inner : Step Group → Type 0 where
-  stops : {n : ℕ} → eqb n 9 ≡ false → Inner (Stop n)
-  goes : {g : Group} → Somebody g → Inner (Next g)
+abbrev NotNine : ℕ → Type 0
+NotNine n = eqb n 9 ≡ false
 
-must-inner : (b : Bool) (r : Step Group) → Inner r → Inner (must b r)
-must-inner true r h = h
-must-inner false r h = stops refl
-
-figure-inner : (f : Figure) (next : ℕ → Step Group) → ((n : ℕ) → Inner (next n)) → Inner (figure f next)
-figure-inner (Value n) next h = h n
-figure-inner Comma next h = stops refl
-figure-inner Malformed next h = stops refl
-
-trade-inner : (o : Opening) (next : Trade → Step Group) → ((t : Trade) → Inner (next t)) → Inner (trade o next)
-trade-inner (Made t) next h = h t
-trade-inner CommaIn next h = stops refl
-trade-inner NoTrade next h = stops refl
-
-holding-inner : (terms : Terms) (code : List ℕ) (p : Position) → Inner (holding terms code p)
-holding-inner terms code p = go (overdrawn terms p) refl
-  where
-    go : (b : Bool) → overdrawn terms p ≡ b → Inner (holding terms code p)
-    go true e = rw e (stops refl)
-    go false e = rw e (goes tt)
-
-pub within-inner : (terms : Terms) (g : Group) (t : ℕ) (v : List ℕ) → Inner (within terms g t v)
+pub within-inner : (terms : Terms) (g : Group) (t : ℕ) (v : List ℕ) → Keeps NotNine Somebody (within terms g t v)
 unfolding within
-within-inner terms Nobody t v = stops refl
-within-inner terms (Coded code) t v = must-inner (is "K" t) _ (figure-inner (figureOf heldForm v) _ (λ k. goes tt))
-within-inner terms (Long code k) t v = must-inner (is "H" t) _ (figure-inner (figureOf heldForm v) _ (λ h. goes tt))
+within-inner terms Nobody t v = refl
+within-inner terms (Coded code) t v =
+    must-keeps NotNine Somebody refl (is "K" t) _ (figure-keeps NotNine Somebody heldForm v (λ k. Next (Long code (lots k))) refl refl (λ k h. tt))
+within-inner terms (Long code k) t v =
+    must-keeps NotNine Somebody refl (is "H" t) _ (figure-keeps NotNine Somebody heldForm v (λ h. Next (Short code k (lots h))) refl refl (λ h l. tt))
 within-inner terms (Short code k h) t v =
-    must-inner (is "Q" t) _ (figure-inner (figureOf heldForm v) _ (λ q. holding-inner terms code (record { long = k; short = h; unfilled = lots q })))
-within-inner terms (Trading c) t v = must-inner (is "B" t || is "A" t) _ (trade-inner (openingOf (is "B" t) v) _ (λ x. goes tt))
+    must-keeps NotNine Somebody refl (is "Q" t) _ (figure-keeps NotNine Somebody heldForm v (λ q. holding terms code (record { long = k; short = h; unfilled = lots q })) refl refl (λ q l.
+    refuse-keeps NotNine Somebody 8 (overdrawn terms (record { long = k; short = h; unfilled = lots q })) _ refl (λ e. tt)))
+within-inner terms (Trading c) t v =
+    must-keeps NotNine Somebody refl (is "B" t || is "A" t) _ (trade-keeps NotNine Somebody (openingOf (is "B" t) v) (λ x. Next (Trading (traded c x))) refl refl (λ x. tt))
 
 -- at C or Z a group that may not end there is refused, and one that may is judged, with 9, before the field itself
 module _ (terms : Terms) (cs : List Customer) (lastC at : ℕ) (t : ℕ) (v : List ℕ) (fs : List Field) where
@@ -152,10 +126,10 @@ module _ (terms : Terms) (cs : List Customer) (lastC at : ℕ) (t : ℕ) (v : Li
 inner-goes :
     (terms : Terms) (cs : List Customer) (lastC at e : ℕ) (fs : List Field) →
     ((g : Group) → Somebody g → walk (Reading (InGroup terms cs g)) lastC e fs ≡ carried terms cs lastC (groupFrom terms g lastC e fs)) →
-    (r : Step Group) → Inner r →
+    (r : Step Group) → Keeps NotNine Somebody r →
     placed lastC at (goesOn terms cs r) (λ stage. walk stage lastC e fs) ≡ carried terms cs lastC (onward at r λ next. groupFrom terms next lastC e fs)
-inner-goes terms cs lastC at e fs ih (Stop n) (stops h) = rw h
-inner-goes terms cs lastC at e fs ih (Next g) (goes s) = ih g s
+inner-goes terms cs lastC at e fs ih (Stop n) h = rw h
+inner-goes terms cs lastC at e fs ih (Next g) s = ih g s
 
 pub walk-group :
     (terms : Terms) (cs : List Customer) (g : Group) (lastC at : ℕ) (fs : List Field) → Somebody g →

@@ -8,8 +8,8 @@ pub mod Figures
 pub mod Keys
 pub mod Blocks
 pub mod Fields
-pub mod Groups
 pub mod Keeps
+pub mod Groups
 pub mod Sane
 pub mod Exact
 pub mod Gains

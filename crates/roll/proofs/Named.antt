@@ -9,19 +9,12 @@ use lib.ListN.{length}
 use lib.Dec.{leb}
 use borrow.Author.Tests.{leb-true}
 use Rattle.rules.specs.declared.Terms.{Terms}
-use Rattle.rules.specs.declared.Position.{Position}
-use Rattle.rules.specs.declared.Trade.{Trade}
-use Rattle.rules.specs.declared.Figure.{Figure}
-use Rattle.rules.specs.declared.Figure.the-variants.{Value, Comma, Malformed}
-use Rattle.rules.specs.declared.Opening.{Opening}
-use Rattle.rules.specs.declared.Opening.the-variants.{Made}
-use Rattle.rules.specs.declared.Opening.the-variants.{Comma as CommaIn}
-use Rattle.rules.specs.declared.Opening.the-variants.{Malformed as NoTrade}
 use Rattle.rules.specs.Text.{is}
-use Rattle.rules.specs.Figures.{figureOf, openingOf, heldForm, lots}
+use Rattle.rules.specs.Figures.{openingOf, heldForm, lots}
 use Rattle.rules.specs.Codes.{isCode, allOfCode}
 use Rattle.rules.specs.Fields.{Field, Whole, Cut}
-use Rattle.rules.specs.Book.{Customer, uncovered, overdrawn, Step, Stop, Next, must, figure, trade, holding, Group, Nobody, Coded, Long, Short, Trading, within}
+use Rattle.rules.specs.Book.{Customer, uncovered, overdrawn, Step, Stop, Next, holding, Group, Nobody, Coded, Long, Short, Trading, traded, within}
+use Rattle.laws.specs.Keeps.{Keeps, must-keeps, refuse-keeps, figure-keeps, trade-keeps}
 use Rattle.laws.specs.Groups.{Read, Bad, Good, closing, onward, groupFrom}
 
 -- a group of this code, and what comes of it
@@ -32,44 +25,26 @@ Named code (Long v k) = v ≡ code
 Named code (Short v k h) = v ≡ code
 Named code (Trading c) = c .code ≡ code
 
-abbrev After : List ℕ → Step Group → Type 0
-After code (Stop n) = Unit
-After code (Next g) = Named code g
-
 abbrev pub Ended : List ℕ → Read → Type 0
 Ended code (Bad n place) = Unit
 Ended code (Good c at fs) = c .code ≡ code
 
+abbrev Any : ℕ → Type 0
+Any n = Unit
+
 module _ (code : List ℕ) where
-  must-after : (b : Bool) (r : Step Group) → After code r → After code (must b r)
-  must-after true r h = h
-  must-after false r h = tt
-
-  figure-after : (f : Figure) (next : ℕ → Step Group) → ((n : ℕ) → After code (next n)) → After code (figure f next)
-  figure-after (Value n) next h = h n
-  figure-after Comma next h = tt
-  figure-after Malformed next h = tt
-
-  trade-after : (o : Opening) (next : Trade → Step Group) → ((t : Trade) → After code (next t)) → After code (trade o next)
-  trade-after (Made t) next h = h t
-  trade-after CommaIn next h = tt
-  trade-after NoTrade next h = tt
-
-  holding-after : (terms : Terms) (v : List ℕ) (p : Position) → v ≡ code → After code (holding terms v p)
-  holding-after terms v p e = go (overdrawn terms p) refl
-    where
-      go : (b : Bool) → overdrawn terms p ≡ b → After code (holding terms v p)
-      go true x = rw x tt
-      go false x = rw x e
-
-  within-after : (terms : Terms) (g : Group) (t : ℕ) (v : List ℕ) → Named code g → After code (within terms g t v)
+  within-named : (terms : Terms) (g : Group) (t : ℕ) (v : List ℕ) → Named code g → Keeps Any (Named code) (within terms g t v)
   unfolding within
-  within-after terms Nobody t v e = tt
-  within-after terms (Coded u) t v e = must-after (is "K" t) _ (figure-after (figureOf heldForm v) _ (λ k. e))
-  within-after terms (Long u k) t v e = must-after (is "H" t) _ (figure-after (figureOf heldForm v) _ (λ h. e))
-  within-after terms (Short u k h) t v e =
-      must-after (is "Q" t) _ (figure-after (figureOf heldForm v) _ (λ q. holding-after terms u (record { long = k; short = h; unfilled = lots q }) e))
-  within-after terms (Trading c) t v e = must-after (is "B" t || is "A" t) _ (trade-after (openingOf (is "B" t) v) _ (λ x. e))
+  within-named terms Nobody t v e = tt
+  within-named terms (Coded u) t v e =
+      must-keeps Any (Named code) tt (is "K" t) _ (figure-keeps Any (Named code) heldForm v (λ k. Next (Long u (lots k))) tt tt (λ k h. e))
+  within-named terms (Long u k) t v e =
+      must-keeps Any (Named code) tt (is "H" t) _ (figure-keeps Any (Named code) heldForm v (λ h. Next (Short u k (lots h))) tt tt (λ h l. e))
+  within-named terms (Short u k h) t v e =
+      must-keeps Any (Named code) tt (is "Q" t) _ (figure-keeps Any (Named code) heldForm v (λ q. holding terms u (record { long = k; short = h; unfilled = lots q })) tt tt (λ q l.
+      refuse-keeps Any (Named code) 8 (overdrawn terms (record { long = k; short = h; unfilled = lots q })) _ tt (λ x. e)))
+  within-named terms (Trading c) t v e =
+      must-keeps Any (Named code) tt (is "B" t || is "A" t) _ (trade-keeps Any (Named code) (openingOf (is "B" t) v) (λ x. Next (Trading (traded c x))) tt tt (λ x. e))
 
   closing-ended : (lastC at : ℕ) (fs : List Field) (g : Group) → Named code g → Ended code (closing lastC at fs g)
   closing-ended lastC at fs Nobody e = tt
@@ -86,9 +61,9 @@ module _ (code : List ℕ) where
   ended terms g lastC at [] e = tt
   ended terms g lastC at (Cut ∷ fs) e = tt
   ended terms g lastC at (Whole t v ∷ fs) e =
-      go (is "C" t || is "Z" t) (within terms g t v) (within-after terms g t v e) (λ h k. ended terms h lastC (at + 3 + length v) fs k)
+      go (is "C" t || is "Z" t) (within terms g t v) (within-named terms g t v e) (λ h k. ended terms h lastC (at + 3 + length v) fs k)
     where
-      go : (b : Bool) (r : Step Group) → After code r → ((h : Group) → Named code h → Ended code (groupFrom terms h lastC (at + 3 + length v) fs)) →
+      go : (b : Bool) (r : Step Group) → Keeps Any (Named code) r → ((h : Group) → Named code h → Ended code (groupFrom terms h lastC (at + 3 + length v) fs)) →
           Ended code (cond b (closing lastC at (Whole t v ∷ fs) g) (onward at r λ next. groupFrom terms next lastC (at + 3 + length v) fs))
       go true r a ih = closing-ended lastC at (Whole t v ∷ fs) g e
       go false (Stop n) a ih = tt
