@@ -70,7 +70,7 @@ module _ {A : Type 0} (code : A → List ℕ) (weight : A → ℕ) (x : ℕ) whe
     left-few = omega (arith, left-le, sum-mono (λ a. oneIf (ltb 0 (remainder code weight x sum a))) (λ a. 1) all (λ a m. one-le (ltb 0 (remainder code weight x sum a))), sum-one all)
 
     -- who gets a lot that was left over has a remainder
-    served : (a : A) → rank code weight x sum all a < leftOver code weight x sum all → 0 < remainder code weight x sum a
+    pub served : (a : A) → rank code weight x sum all a < leftOver code weight x sum all → 0 < remainder code weight x sum a
     served a h = go (remainder code weight x sum a) refl
       where
         go : (r : ℕ) → remainder code weight x sum a ≡ r → 0 < r

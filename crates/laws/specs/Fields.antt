@@ -26,7 +26,7 @@ bound (suc m) (suc n) (t ∷ a ∷ b ∷ s) h k =
     ap (λ (fs : List Field). cond (ltb (length (take d s)) d) (Cut ∷ []) (Whole t (take d s) ∷ fs))
     (bound m n (drop d s) (simp length-drop (omega arith)) (simp length-drop (omega arith)))
 
-fields-cons :
+pub fields-cons :
     (t a b : ℕ) (s : List ℕ) →
     fieldsOf (t ∷ a ∷ b ∷ s)
     ≡ cond (ltb (length (take (a * 256 + b) s)) (a * 256 + b)) (Cut ∷ []) (Whole t (take (a * 256 + b) s) ∷ fieldsOf (drop (a * 256 + b) s))

@@ -42,7 +42,7 @@ ltb-same m n m′ n′ f g = go (ltb m n) (ltb m′ n′) refl refl
     go false true p q = absurd (omega (arith, g (ltb-true m′ n′ q), ltb-false m n p))
 
 module _ {A : Type 0} (b : A → A → ℕ) (o : Order b) where
-  before-mono : (t : List A) (a i : A) → b a i ≡ 1 → before b t a ≤ before b t i
+  pub before-mono : (t : List A) (a i : A) → b a i ≡ 1 → before b t a ≤ before b t i
   before-mono t a i e = sum-mono _ _ t (λ j m. omega (arith, o .trans j a i))
 
   before-lt : (t : List A) (a i : A) → List·Memᴰ i t → b i a ≡ 1 → before b t i < before b t a

@@ -1,9 +1,10 @@
--- What is true of every book: a refusal has a number above 0. And of the customers of every accepted one: there are at most 256, their codes are codes, and no position is above the most
--- lots that a figure can say.
+-- What is true of every book: a refusal has a number above 0. And of the customers of every accepted one: there are at most 256, their codes are codes and distinct, and no position is above
+-- the most lots that a figure can say.
 -- Assumes nothing.
 use Prim.Native.Nat.{ℕ, _+_, _≤_, _<_}
-use mathlib.Core.Path.{_≡_, refl, sym, subst, _∙_}
-use mathlib.Core.List.{List, [], _∷_, _++_}
+use mathlib.Core.Path.{_≡_, refl, sym, ap, subst, _∙_}
+use mathlib.Core.Logic.{⊎-elim}
+use mathlib.Core.List.{List, [], _∷_, _++_, List·Memᴰ·not-nil, List·Memᴰ·append-cases, List·Memᴰ·eq-of-singleton}
 use mathlib.Core.Bool.{Bool, true, false, cond, not, _||_}
 use native.Mathlib.Omega.{arith}
 use lib.ListN.{length, length-append}
@@ -12,7 +13,7 @@ use borrow.Author.Tests.{leb-false}
 use Rattle.rules.specs.declared.Terms.{Terms}
 use Rattle.rules.specs.declared.Position.{Position}
 use Rattle.rules.specs.Text.{is}
-use Rattle.rules.specs.Codes.{isCode}
+use Rattle.rules.specs.Codes.{isCode, same}
 use Rattle.rules.specs.Figures.{openingOf, priceForm, rateForm, heldForm, fen, lots, rate}
 use Rattle.rules.specs.Fields.{Field, Whole, Cut, fieldsOf}
 use Rattle.rules.specs.Book.{
@@ -53,6 +54,8 @@ use Rattle.rules.specs.Book.{
   walk,
   judge,
 }
+use Rattle.laws.specs.ShareSum.{Distinct}
+use Rattle.laws.specs.Picks.{not-either}
 use Rattle.laws.specs.Keeps.{Keeps, must-keeps, refuse-keeps, figure-keeps, trade-keeps, lock-keeps}
 
 pub record Sane (c : Customer) : Type 0 where
@@ -68,7 +71,23 @@ pub sane-more : (cs : List Customer) (c : Customer) → AllSane cs → Sane c �
 sane-more [] c h k = (k, tt)
 sane-more (d ∷ cs) c h k = (h .0, sane-more cs c (h .1) k)
 
--- a group that may become a sane customer, the next of fewer than 256
+abbrev pub codeIn : Customer → List ℕ
+codeIn c = c .code
+
+-- sane customers whose codes are distinct
+abbrev Sound : List Customer → Type 0
+Sound cs = AllSane cs × Distinct codeIn cs
+
+-- a code that was not given before
+distinct-more : (cs : List Customer) (c : Customer) → Distinct codeIn cs → given (c .code) cs ≡ false → Distinct codeIn (cs ++ c ∷ [])
+distinct-more [] c d h = ((λ b m. absurd (List·Memᴰ·not-nil m)), tt)
+distinct-more (b ∷ cs) c (d, ds) h =
+    let (p, q) = not-either (same (b .code) (c .code)) (given (c .code) cs) h in (
+      (λ x m. ⊎-elim (λ n. d x n) (λ n. ap (λ (y : Customer). same (b .code) (y .code)) (List·Memᴰ·eq-of-singleton n) ∙ p) (List·Memᴰ·append-cases cs m)),
+      distinct-more cs c ds q,
+    )
+
+-- a group that may become a sane customer, the next of fewer than 256, with a code of its own
 abbrev SaneGroup : Group → Type 0
 SaneGroup Nobody = Unit
 SaneGroup (Coded v) = isCode v ≡ true
@@ -78,10 +97,10 @@ SaneGroup (Trading c) = Sane c
 
 abbrev Room : List Customer → Group → Type 0
 Room cs Nobody = length cs ≤ 256
-Room cs (Coded v) = length cs < 256
-Room cs (Long v k) = length cs < 256
-Room cs (Short v k h) = length cs < 256
-Room cs (Trading c) = length cs < 256
+Room cs (Coded v) = (length cs < 256) × (given v cs ≡ false)
+Room cs (Long v k) = (length cs < 256) × (given v cs ≡ false)
+Room cs (Short v k h) = (length cs < 256) × (given v cs ≡ false)
+Room cs (Trading c) = (length cs < 256) × (given (c .code) cs ≡ false)
 
 -- and no refusal has the number of an acceptance
 abbrev Above : ℕ → Type 0
@@ -109,6 +128,7 @@ within-sane terms cs (Trading c) t v m =
 
 pub record Customers (cs : List Customer) : Type 0 where
   pub all : AllSane cs
+  pub distinct : Distinct codeIn cs
   pub few : length cs ≤ 256
 
 abbrev SaneStage : Stage → Type 0
@@ -117,19 +137,19 @@ SaneStage (Reading (DueS d)) = Unit
 SaneStage (Reading (DueL d s)) = Unit
 SaneStage (Reading (DueU d s l)) = Unit
 SaneStage (Reading (DueV d s l u)) = Unit
-SaneStage (Reading (InGroup terms cs g)) = AllSane cs × Member cs g
+SaneStage (Reading (InGroup terms cs g)) = Sound cs × Member cs g
 SaneStage (Ended terms cs) = Customers cs
 
 -- at C or Z
-closed-sane : (cs : List Customer) (g : Group) (next : List Customer → Step Stage) → AllSane cs → Member cs g → ((ds : List Customer) → Customers ds → Keeps Above SaneStage (next ds)) →
+closed-sane : (cs : List Customer) (g : Group) (next : List Customer → Step Stage) → Sound cs → Member cs g → ((ds : List Customer) → Customers ds → Keeps Above SaneStage (next ds)) →
     Keeps Above SaneStage (closed cs g next)
-closed-sane cs Nobody next a m h = h cs (record { all = a; few = m .room })
+closed-sane cs Nobody next a m h = h cs (record { all = a .0; distinct = a .1; few = m .room })
 closed-sane cs (Coded v) next a m h = omega arith
 closed-sane cs (Long v k) next a m h = omega arith
 closed-sane cs (Short v k l) next a m h = omega arith
 closed-sane cs (Trading c) next a m h =
     refuse-keeps Above SaneStage 9 (uncovered c) _ (omega arith) (λ e.
-    h (cs ++ c ∷ []) (record { all = sane-more cs c a (m .sane); few = simp length-append (omega (arith, m .room)) }))
+    h (cs ++ c ∷ []) (record { all = sane-more cs c (a .0) (m .sane); distinct = distinct-more cs c (a .1) (m .room .1); few = simp length-append (omega (arith, m .room .0)) }))
 
 not-not : (b : Bool) → not b ≡ false → b ≡ true
 not-not true h = refl
@@ -140,12 +160,12 @@ opens-sane terms v cs k =
     refuse-keeps Above SaneStage 10 (leb 256 (length cs)) _ (omega arith) (λ few.
     refuse-keeps Above SaneStage 5 (not (isCode v)) _ (omega arith) (λ good.
     refuse-keeps Above SaneStage 7 (given v cs) _ (omega arith) (λ new.
-    (k .all, record { sane = not-not (isCode v) good; room = omega (arith, leb-false) }))))
+    ((k .all, k .distinct), record { sane = not-not (isCode v) good; room = (omega (arith, leb-false), new) }))))
 
 ends-sane : (terms : Terms) (v : List ℕ) (cs : List Customer) → Customers cs → Keeps Above SaneStage (ends terms v cs)
 ends-sane terms v cs k = refuse-keeps Above SaneStage 5 (ltb 0 (length v)) _ (omega arith) (λ e. k)
 
-goes-sane : (terms : Terms) (cs : List Customer) → AllSane cs → (r : Step Group) → Keeps Above (Member cs) r → Keeps Above SaneStage (goesOn terms cs r)
+goes-sane : (terms : Terms) (cs : List Customer) → Sound cs → (r : Step Group) → Keeps Above (Member cs) r → Keeps Above SaneStage (goesOn terms cs r)
 goes-sane terms cs a (Stop n) h = h
 goes-sane terms cs a (Next g) h = (a, h)
 
@@ -157,7 +177,7 @@ step-sane (DueL d s) t v h = must-keeps Above SaneStage (omega arith) (is "L" t)
 step-sane (DueU d s l) t v h = must-keeps Above SaneStage (omega arith) (is "U" t) _ (figure-keeps Above SaneStage rateForm v _ (omega arith) (omega arith) (λ n k. tt))
 step-sane (DueV d s l u) t v h =
     must-keeps Above SaneStage (omega arith) (is "V" t) _ (figure-keeps Above SaneStage rateForm v _ (omega arith) (omega arith) (λ x k.
-    refuse-keeps Above SaneStage 6 (leb (u .0) x) _ (omega arith) (λ e. (tt, record { sane = tt; room = omega arith }))))
+    refuse-keeps Above SaneStage 6 (leb (u .0) x) _ (omega arith) (λ e. ((tt, tt), record { sane = tt; room = omega arith }))))
 step-sane (InGroup terms cs g) t v h = go (is "C" t) (is "Z" t)
   where
     go : (p q : Bool) → Keeps Above SaneStage (cond p (closed cs g (opens terms v)) (cond q (closed cs g (ends terms v)) (goesOn terms cs (within terms g t v))))

@@ -28,13 +28,13 @@ module _ {A : Type 0} (code : A → List ℕ) where
 
 module _ {A : Type 0} (code : A → List ℕ) (weight : A → ℕ) where
   module _ (x sum : ℕ) where
-    abbrev won : A → A → ℕ
+    abbrev pub won : A → A → ℕ
     won j i = oneIf (goesBefore code weight x sum j i)
 
     abbrev rest : A → ℕ
     rest = remainder code weight x sum
 
-    order : Order won
+    pub order : Order won
     order =
         record {
           small = λ i j. one-le (goesBefore code weight x sum i j);

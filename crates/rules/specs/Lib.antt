@@ -9,6 +9,7 @@ pub mod Division
 pub mod Cascade
 pub mod Report
 pub mod Answer
+pub mod Rearranged
 pub mod Tables
 pub mod Cases
 pub mod Refusals

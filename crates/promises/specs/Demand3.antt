@@ -1,0 +1,147 @@
+-- Demand 3: "Rearrange an accepted book's customers, or take out those who are neither pending nor in a tier, or both: it is accepted too, with
+-- the same report buffer, and everybody still in it has the same standing and lots, with the same total and residue."
+-- Assumes nothing.
+use Prim.Native.Nat.{ℕ, _+_, _≤_, _<_}
+use Prim.Native.Char.{code}
+use mathlib.Core.Path.{_≡_, refl, sym, ap, ap₂, _∙_}
+use mathlib.Core.List.{List, [], _∷_, _++_, map}
+use lib.ListN.{length, getD, drop, length-append, length-map}
+use native.Mathlib.Omega.{arith}
+use Rattle.rules.specs.Figures.{lots}
+use Rattle.rules.specs.Fields.{Field, Whole, fieldsOf}
+use Rattle.rules.specs.Division.{sumOf}
+use Rattle.rules.specs.Book.{Customer, Accepted, judge}
+use Rattle.rules.specs.Cascade.{Outcome, lineOf, cascade, outcome}
+use Rattle.rules.specs.Report.{digits, field, joined, reported, report}
+use Rattle.rules.specs.Answer.{answer}
+use Rattle.rules.specs.Rearranged.{partsOf, together, picked, rearranged, Below, nobody, Chosen}
+use Rattle.laws.specs.Picks.{sum-chosen-le, getD-in}
+use Rattle.laws.specs.Within.{Within, as-many}
+use Rattle.laws.specs.Lines.{book-within}
+use Rattle.laws.specs.Chosen.{pickedOf, chosen-after, outcome-chosen}
+use Rattle.laws.specs.Framed.{parts-together}
+use Rattle.laws.specs.Accepted.{groups-of-customers, group-begins}
+use Rattle.laws.specs.Rearrange.{rearranged-accepted}
+use Rattle.allotment.specs.declared.Answer.{Answer}
+use Rattle.allotment.specs.Answered.{Answered}
+use Rattle.promises.specs.Outcomes.{outcomeOf, Fits, accepted-fits, fits-accepted, fits-report}
+
+-- Book t is accepted with the same room as book s, and says of its customers what s says of those at the indices `is`
+pub record Stays (s t is : List ℕ) (room : ℕ) : Type 0 where
+  pub accepted : answer t room .number ≡ 0
+  pub total : outcomeOf t .total ≡ outcomeOf s .total
+  pub residue : outcomeOf t .residue ≡ outcomeOf s .residue
+  -- code, standing and lots of each customer that is still in it
+  pub lines : outcomeOf t .lines ≡ picked nobody (outcomeOf s .lines) is
+  -- and this is what stands in the buffer
+  pub report : answer t room .report ≡ report (outcomeOf t)
+
+-- The groups are the book's own: put together again they are its bytes, and group i begins with the code of the report's customer i
+pub record Parted (s : List ℕ) : Type 0 where
+  pub whole : together (partsOf s) ≡ s
+  pub as-many : length (partsOf s .groups) ≡ length (outcomeOf s .lines)
+  pub named : (i : ℕ) → i < length (outcomeOf s .lines) →
+      (fs : List Field) × (fieldsOf (getD (partsOf s .groups) i []) ≡ Whole (code "C") (getD (outcomeOf s .lines) i nobody .code) ∷ fs)
+
+none : Customer
+none = record { code = []; position = record { long = lots 0; short = lots 0; unfilled = lots 0 }; trades = [] }
+
+length-joined : {A : Type 0} (f : A → List ℕ) (l : List A) → length (joined f l) ≡ sumOf (λ a. length (f a)) l
+length-joined f [] = refl
+length-joined f (a ∷ rest) = omega (arith, length-append (f a) (joined f rest), length-joined f rest)
+
+-- with fewer customers a report is no longer
+report-shorter : (o : Outcome) (is : List ℕ) → Chosen (o .lines) is → length (report (pickedOf o is)) ≤ length (report o)
+unfolding report
+report-shorter o is c =
+    let head = field "T" (digits (o .total)) ++ field "R" (digits (o .residue)) in
+    omega (
+      arith,
+      length-append head (joined reported (picked nobody (o .lines) is)),
+      length-append head (joined reported (o .lines)),
+      length-joined reported (picked nobody (o .lines) is),
+      length-joined reported (o .lines),
+      sum-chosen-le (λ l. length (reported l)) nobody (o .lines) is (c .below) (c .once),
+    )
+
+module _ (s : List ℕ) (room : ℕ) (f : Fits s room) where
+  outcome-is : outcomeOf s ≡ outcome (f .terms) (f .customers)
+  unfolding outcomeOf
+  outcome-is = rw (f .judged)
+
+  lines-many : length (outcome (f .terms) (f .customers) .lines) ≡ length (f .customers)
+  unfolding outcome
+  lines-many = as-many (map (lineOf (f .terms)) (f .customers)) ∙ length-map (f .customers) (lineOf (f .terms))
+
+  module _ (is : List ℕ) (c : Chosen (outcome (f .terms) (f .customers) .lines) is) where
+    some : List Customer
+    some = picked none (f .customers) is
+
+    outcome-some : outcome (f .terms) some ≡ pickedOf (outcome (f .terms) (f .customers)) is
+    unfolding outcome some
+    outcome-some = outcome-chosen (f .terms) (f .customers) none is (chosen-after (map (lineOf (f .terms)) (f .customers)) is c)
+
+    still-fits : Fits (rearranged s is) room
+    unfolding some
+    still-fits =
+        record {
+          terms = f .terms;
+          customers = some;
+          judged = rearranged-accepted s (f .terms) (f .customers) (f .judged) is (rw lines-many at (c .below)) (c .once) none;
+          room-enough = rw outcome-some (omega (arith, report-shorter (outcome (f .terms) (f .customers)) is c, f .room-enough));
+        }
+
+    outcome-now : outcomeOf (rearranged s is) ≡ outcome (f .terms) some
+    unfolding outcomeOf still-fits
+    outcome-now = rw (still-fits .judged)
+
+    stays : Stays s (rearranged s is) is room
+    unfolding still-fits
+    stays =
+        let same : outcomeOf (rearranged s is) ≡ pickedOf (outcomeOf s) is = outcome-now ∙ outcome-some ∙ ap (λ (o : Outcome). pickedOf o is) (sym outcome-is) in
+        record {
+          accepted = fits-accepted (rearranged s is) room still-fits;
+          total = ap (λ (o : Outcome). o .total) same;
+          residue = ap (λ (o : Outcome). o .residue) same;
+          lines = ap (λ (o : Outcome). o .lines) same;
+          report = fits-report (rearranged s is) room still-fits;
+        }
+
+pub demand-3 : (s : List ℕ) (room : ℕ) → answer s room .number ≡ 0 → (is : List ℕ) → Chosen (outcomeOf s .lines) is → Stays s (rearranged s is) is room
+demand-3 s room h is c = let f = accepted-fits s room h in stays s room f is (rw (outcome-is s room f) at c)
+
+-- the book's own groups
+pub accepted-parted : (s : List ℕ) (room : ℕ) → answer s room .number ≡ 0 → Parted s
+unfolding lineOf
+accepted-parted s room h =
+    let f = accepted-fits s room h in
+    let e = f .judged in
+    let many : length (outcomeOf s .lines) ≡ length (f .customers) = ap (λ (o : Outcome). length (o .lines)) (outcome-is s room f) ∙ lines-many s room f in
+    record {
+      whole = parts-together s;
+      as-many = groups-of-customers s (f .terms) (f .customers) e ∙ sym many;
+      named = λ i l. named i (rw many at l);
+    }
+  where
+    named : (i : ℕ) → i < length (accepted-fits s room h .customers) →
+        (fs : List Field) × (fieldsOf (getD (partsOf s .groups) i []) ≡ Whole (code "C") (getD (outcomeOf s .lines) i nobody .code) ∷ fs)
+    named i l =
+        let f = accepted-fits s room h in
+        let w = book-within s (f .terms) (f .customers) (f .judged) i none l in
+        let g = group-begins s (f .terms) (f .customers) (f .judged) i none l in
+        (g .0, rw (outcome-is s room f, w .code) (g .1))
+
+-- The same of two calls with the same buffer: r and exit for the book, r′ and exit′ for the book rearranged
+pub demand-3-call :
+    (s entry is : List ℕ) (r r′ : Answer) (exit exit′ : List ℕ) → Answered (answer s (length entry)) r entry exit → r .number ≡ 0 → Chosen (outcomeOf s .lines) is →
+    Answered (answer (rearranged s is) (length entry)) r′ entry exit′ →
+    (r′ .number ≡ 0) × (exit′ ≡ report (pickedOf (outcomeOf s) is) ++ drop (length (report (pickedOf (outcomeOf s) is))) entry)
+demand-3-call s entry is r r′ exit exit′ a h c b =
+    let k = demand-3 s (length entry) (sym (a .number) ∙ h) is c in
+    let same : outcomeOf (rearranged s is) ≡ pickedOf (outcomeOf s) is = outcomes _ _ (k .total) (k .residue) (k .lines) in
+    (b .number ∙ k .accepted, b .buffer ∙ rw (k .report, same) refl)
+  where
+    outcomes : (o p : Outcome) → o .total ≡ p .total → o .residue ≡ p .residue → o .lines ≡ p .lines → o ≡ p
+    outcomes o p t r l =
+        ap (λ total. record { total = total; residue = o .residue; lines = o .lines }) t
+        ∙ ap₂ (λ residue lines. record { total = p .total; residue = residue; lines = lines }) r l

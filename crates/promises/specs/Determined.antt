@@ -1,0 +1,196 @@
+-- "Every public function's contract determines all it returns and all lent bytes, on refusal too; show that any two results it allows are
+-- equal." What each contract says is written here as it stands in the source, for whatever the function is given; a lent buffer at exit is
+-- part of the result.
+-- Assumes nothing.
+use Prim.Native.Nat.{ℕ}
+use mathlib.Core.Path.{_≡_, sym, ap, ap₂, _∙_}
+use mathlib.Core.Bool.{Bool}
+use mathlib.Core.List.{List, [], _∷_, _++_}
+use lib.IntN.{ℤ}
+use lib.ListN.{length, take, drop}
+use Rattle.rules.specs.declared.Fen.{Fen}
+use Rattle.rules.specs.declared.Lots.{Lots}
+use Rattle.rules.specs.declared.Form.{Form}
+use Rattle.rules.specs.declared.Figure.{Figure}
+use Rattle.rules.specs.declared.Opening.{Opening}
+use Rattle.rules.specs.declared.Terms.{Terms}
+use Rattle.rules.specs.declared.Position.{Position}
+use Rattle.rules.specs.declared.Standing.{Standing}
+use Rattle.rules.specs.Figures.{figureOf, openingOf}
+use Rattle.rules.specs.Fields.{fieldsOf}
+use Rattle.rules.specs.Book.{Coded, Refused, judge, net, netLong}
+use Rattle.rules.specs.Standing.{standingAt, countedPending}
+use Rattle.rules.specs.Division.{sumOf}
+use Rattle.rules.specs.Cascade.{pendingOf}
+use Rattle.rules.specs.Report.{reported, printed, listingOf, listing}
+use Rattle.rules.specs.Answer.{answer}
+use Rattle.rules.specs.Answer.{Answer as Answer01}
+use Rattle.laws.specs.Sums.{upTo}
+use Rattle.laws.specs.Groups.{groupFrom}
+use Rattle.codes.specs.declared.Code.{Code}
+use Rattle.codes.specs.Codes.{codeOf, givenIn}
+use Rattle.gain.specs.Ranges.{Gained}
+use Rattle.fields.specs.declared.Found.{Found}
+use Rattle.fields.specs.First.{firstAt}
+use Rattle.book.specs.declared.TermsAt.{TermsAt}
+use Rattle.book.specs.declared.GroupAt.{GroupAt}
+use Rattle.book.specs.Reading.{termsOf}
+use Rattle.book.specs.Group.{groupAt}
+use Rattle.division.specs.declared.Shares.{Shares}
+use Rattle.division.specs.Shares.{at, sharesOf}
+use Rattle.cascade.specs.declared.Cascade.{Cascade}
+use Rattle.cascade.specs.State.{linesOf, afterTier, afterAll}
+use Rattle.writing.specs.Written.{Wrote}
+use Rattle.writing.specs.Pieces.{shown, reportHead, listedHead, reportedLength}
+use Rattle.roll.specs.declared.Roll.{Roll}
+use Rattle.roll.specs.Roll.{rollOf}
+use Rattle.report.specs.declared.Lines.{Lines}
+use Rattle.report.specs.Lines.{reportBytes, listingBytes}
+use Rattle.allotment.specs.declared.Answer.{Answer}
+use Rattle.allotment.specs.declared.Worked.{Worked}
+use Rattle.allotment.specs.Answered.{Answered, Listed}
+use Rattle.allotment.specs.Worked.{workedOf}
+
+-- any two results that a contract allows are equal
+abbrev pub Determined : {R : Type 0} → (R → Type 0) → Type 0
+Determined {R} Allowed = (r q : R) → Allowed r → Allowed q → r ≡ q
+
+-- what a function returns, and a lent buffer at exit
+pub record Left (R : Type 0) : Type 0 where
+  pub result : R
+  pub exit : List ℕ
+
+-- a contract that names the result
+named : {R : Type 0} (value : R) → Determined (λ r. r ≡ value)
+named value r q e f = e ∙ sym f
+
+left : {R : Type 0} (r q : Left R) → r .result ≡ q .result → r .exit ≡ q .exit → r ≡ q
+left r q e f = ap₂ (λ result exit. record { result = result; exit = exit }) e f
+
+-- a contract that names the bytes written and the place behind them
+wrote : (at : ℕ) (s entry : List ℕ) → Determined (λ (r : Left ℕ). Wrote at s entry (r .exit) (r .result))
+wrote at s entry r q e f = left r q (e .next ∙ sym (f .next)) (e .whole ∙ sym (f .whole))
+
+-- figures
+pub read-figure : (v : List ℕ) (form : Form) → Determined (λ (r : Figure). r ≡ figureOf form v)
+read-figure v form = named (figureOf form v)
+
+pub read-opening : (v : List ℕ) (bought : Bool) → Determined (λ (r : Opening). r ≡ openingOf bought v)
+read-opening v bought = named (openingOf bought v)
+
+-- codes
+pub read-code : (v : List ℕ) → Determined (λ (r : Code). r ≡ codeOf v)
+read-code v = named (codeOf v)
+
+pub given : (keys : List ℕ) (count key : ℕ) → Determined (λ (r : Bool). r ≡ givenIn (take count keys) key)
+given keys count key = named (givenIn (take count keys) key)
+
+-- gain
+pub gain-of : (long : Bool) (settlement price : Fen) (lots : ℕ) → Determined (λ (r : ℤ). Gained long settlement price lots r)
+gain-of long settlement price lots r q e f = e .exact ∙ sym (f .exact)
+
+pub net-of : (p : Position) → Determined (λ (r : Lots). r .0 ≡ net p)
+net-of p r q e f = ap (λ n. record { 0 = n }) (e ∙ sym f)
+
+pub net-long : (p : Position) → Determined (λ (r : Bool). r ≡ netLong p)
+net-long p = named (netLong p)
+
+pub counted-pending : (p : Position) → Determined (λ (r : Lots). r .0 ≡ countedPending p)
+counted-pending p r q e f = ap (λ n. record { 0 = n }) (e ∙ sym f)
+
+pub standing-of : (terms : Terms) (p : Position) (total : ℤ) → Determined (λ (r : Standing). r ≡ standingAt terms p total)
+standing-of terms p total = named (standingAt terms p total)
+
+-- fields
+pub field-at : (book : List ℕ) (place : ℕ) → Determined (λ (r : Found). r ≡ firstAt place (fieldsOf (drop place book)))
+field-at book place = named (firstAt place (fieldsOf (drop place book)))
+
+-- book
+pub read-terms : (book : List ℕ) → Determined (λ (r : TermsAt). r ≡ termsOf book)
+read-terms book = named (termsOf book)
+
+pub read-group : (book : List ℕ) (terms : Terms) (place from : ℕ) →
+    Determined (λ (r : GroupAt). ((code : List ℕ) → r ≡ groupAt terms (groupFrom terms (Coded code) place from (fieldsOf (drop from book)))))
+read-group book terms place from r q e f = e [] ∙ sym (f [])
+
+-- division
+pub total : (weights : List ℕ) (count : ℕ) → Determined (λ (r : ℕ). r ≡ sumOf (at weights) (upTo count))
+total weights count = named (sumOf (at weights) (upTo count))
+
+pub divide : (weights keys : List ℕ) (count x : ℕ) → Determined (λ (r : Shares). r .lots ≡ sharesOf keys weights count x)
+divide weights keys count x r q e f = ap (λ lots. record { lots = lots }) (e ∙ sym f)
+
+-- cascade
+pub tier : (k : ℕ) (st : Cascade) → Determined (λ (r : Cascade). r ≡ afterTier k st)
+tier k st = named (afterTier k st)
+
+pub run : (st : Cascade) → Determined (λ (r : Cascade). r ≡ afterAll st)
+run st = named (afterAll st)
+
+pub owed : (st : Cascade) → Determined (λ (r : ℕ). r ≡ sumOf pendingOf (linesOf st))
+owed st = named (sumOf pendingOf (linesOf st))
+
+-- writing
+pub put-bytes : (entry s : List ℕ) (at : ℕ) → Determined (λ (r : Left ℕ). Wrote at s entry (r .exit) (r .result))
+put-bytes entry s at = wrote at s entry
+
+pub put-reported : (entry code : List ℕ) (at offset : ℕ) (standing : Standing) →
+    Determined (λ (r : Left ℕ). Wrote at (reported (shown code standing offset)) entry (r .exit) (r .result))
+put-reported entry code at offset standing = wrote at (reported (shown code standing offset)) entry
+
+pub put-head : (entry : List ℕ) (total residue : ℕ) → Determined (λ (r : Left ℕ). Wrote 0 (reportHead total residue) entry (r .exit) (r .result))
+put-head entry total residue = wrote 0 (reportHead total residue) entry
+
+pub reported-length : (size offset : ℕ) → Determined (λ (r : ℕ). r ≡ reportedLength size offset)
+reported-length size offset = named (reportedLength size offset)
+
+pub head-length : (total residue : ℕ) → Determined (λ (r : ℕ). r ≡ length (reportHead total residue))
+head-length total residue = named (length (reportHead total residue))
+
+pub put-printed : (entry code : List ℕ) (at offset : ℕ) (standing : Standing) →
+    Determined (λ (r : Left ℕ). Wrote at (printed (shown code standing offset)) entry (r .exit) (r .result))
+put-printed entry code at offset standing = wrote at (printed (shown code standing offset)) entry
+
+pub put-printed-head : (entry : List ℕ) (total residue : ℕ) →
+    Determined (λ (r : Left ℕ). Wrote 0 (listedHead total residue) entry (r .exit) (r .result))
+put-printed-head entry total residue = wrote 0 (listedHead total residue) entry
+
+pub put-refusal : (entry : List ℕ) (number place : ℕ) →
+    Determined (λ (r : Left ℕ). Wrote 0 (listingOf (Refused number place)) entry (r .exit) (r .result))
+put-refusal entry number place = wrote 0 (listingOf (Refused number place)) entry
+
+-- roll
+pub read-roll : (book : List ℕ) → Determined (λ (r : Roll). r ≡ rollOf book)
+read-roll book = named (rollOf book)
+
+-- report
+pub report-length : (l : Lines) → Determined (λ (r : ℕ). r ≡ length (reportBytes l))
+report-length l = named (length (reportBytes l))
+
+pub put-report : (entry : List ℕ) (l : Lines) → Determined (λ (r : Left ℕ). Wrote 0 (reportBytes l) entry (r .exit) (r .result))
+put-report entry l = wrote 0 (reportBytes l) entry
+
+pub put-listing : (entry : List ℕ) (l : Lines) → Determined (λ (r : Left ℕ). Wrote 0 (listingBytes l) entry (r .exit) (r .result))
+put-listing entry l = wrote 0 (listingBytes l) entry
+
+-- allotment
+pub work-out : (book : List ℕ) → Determined (λ (r : Worked). r ≡ workedOf (judge book))
+work-out book = named (workedOf (judge book))
+
+answered : (a : Answer01) (entry : List ℕ) → Determined (λ (r : Left Answer). Answered a (r .result) entry (r .exit))
+answered a entry r q e f =
+    left r q
+    (answers (r .result) (q .result) (e .number ∙ sym (f .number)) (e .place ∙ sym (f .place)) (e .length ∙ sym (f .length)))
+    (e .buffer ∙ sym (f .buffer))
+  where
+    answers : (r q : Answer) → r .number ≡ q .number → r .place ≡ q .place → r .length ≡ q .length → r ≡ q
+    answers r q n p l =
+        ap (λ number. record { number = number; place = r .place; length = r .length }) n
+        ∙ ap₂ (λ place length. record { number = q .number; place = place; length = length }) p l
+
+-- `allot`, and `frundavel_allot` with the same contract
+pub allot : (book entry : List ℕ) → Determined (λ (r : Left Answer). Answered (answer book (length entry)) (r .result) entry (r .exit))
+allot book entry = answered (answer book (length entry)) entry
+
+pub list : (book entry : List ℕ) → Determined (λ (r : Left ℕ). Listed (listing book) entry (r .exit) (r .result))
+list book entry r q e f = left r q (e .size ∙ sym (f .size)) (e .buffer ∙ sym (f .buffer))

@@ -1,0 +1,65 @@
+-- The division is fair: what demands 2 and 3 rest on, stated for readers. "Dividing X over weights w with sum W (X is at most W): each gets the whole
+-- part of X x w / W. The lots left over go one each to the largest remainders of X x w by W; equal remainders go to the smaller code."
+-- Assumes nothing.
+use Prim.Native.Nat.{ℕ, zero, suc, _+_, _≤_, _<_}
+use mathlib.Core.Path.{_≡_, refl, sym, ap, _∙_}
+use mathlib.Core.Bool.{Bool, true, false, _||_, cond}
+use mathlib.Core.List.{List}
+use lib.ListN.{length}
+use lib.Dec.{ltb, eqb}
+use borrow.Author.Tests.{ltb-true, lt-ltb, le-ltb, eq-eqb, ne-eqb}
+use native.Mathlib.Omega.{arith}
+use Rattle.rules.specs.Codes.{smaller}
+use Rattle.rules.specs.Division.{sumOf, oneIf, wholePart, remainder, leftOver, goesBefore, rank, shareOf, share}
+use Rattle.rules.specs.Rearranged.{picked, among, Below, Once}
+use Rattle.laws.specs.Sums.{one-le}
+use Rattle.laws.specs.Picks.{sum-chosen}
+use Rattle.laws.specs.Ranks.{before-mono}
+use Rattle.laws.specs.Division.{share-at-most}
+use Rattle.laws.specs.ShareSum.{Distinct, order, share-sum}
+use Rattle.laws.specs.Alike.{share-alike}
+
+module _ {A : Type 0} (code : A → List ℕ) (weight : A → ℕ) (x : ℕ) (all : List A) where
+  abbrev sum : ℕ
+  sum = sumOf weight all
+
+  -- a share, less the whole part: 1 where a spare lot came, else 0
+  abbrev pub spare : A → ℕ
+  spare a = oneIf (ltb (rank code weight x sum all a) (leftOver code weight x sum all))
+
+  pub record Fair : Type 0 where
+    -- the shares add up to X, where no two members have the same code
+    pub adds-up : Distinct code all → sumOf (share code weight x all) all ≡ x
+    -- none exceeds its weight
+    pub at-most : (a : A) → share code weight x all a ≤ weight a
+    -- the whole part, and at most one lot more
+    pub parts : 0 < x → (a : A) → share code weight x all a ≡ wholePart code weight x sum a + spare a
+    -- the largest remainders first, of equal ones the smaller code: whoever goes before gets a spare lot where the other does
+    pub larger-first : (a b : A) → remainder code weight x sum b < remainder code weight x sum a → spare b ≤ spare a
+    pub smaller-code-first : (a b : A) → remainder code weight x sum a ≡ remainder code weight x sum b → smaller (code a) (code b) ≡ true → spare b ≤ spare a
+    -- the order of the members does not matter
+    pub any-order : (none : A) (is : List ℕ) → Below (length all) is → Once is → ((i : ℕ) → i < length all → among i is ≡ true) → (a : A) →
+        share code weight x (picked none all is) a ≡ share code weight x all a
+
+  before-spare : (a b : A) → goesBefore code weight x sum a b ≡ true → spare b ≤ spare a
+  unfolding rank
+  before-spare a b h = go (ltb (rank code weight x sum all b) (leftOver code weight x sum all)) refl
+    where
+      sooner : rank code weight x sum all a ≤ rank code weight x sum all b
+      sooner = before-mono _ (order code weight x sum) all a b (ap oneIf h)
+
+      go : (p : Bool) → ltb (rank code weight x sum all b) (leftOver code weight x sum all) ≡ p → oneIf p ≤ spare a
+      go false e = omega arith
+      go true e = rw (lt-ltb (rank code weight x sum all a) (leftOver code weight x sum all) (omega (arith, sooner, ltb-true (rank code weight x sum all b) (leftOver code weight x sum all) e))) (omega arith)
+
+  pub fair : x ≤ sum → Fair
+  unfolding share shareOf
+  fair most =
+      record {
+        adds-up = λ d. share-sum code weight x all most d;
+        at-most = share-at-most code weight x all most;
+        parts = λ some a. rw (ne-eqb x 0 (λ e. omega arith), ne-eqb sum 0 (λ e. omega arith)) refl;
+        larger-first = λ a b h. before-spare a b (rw (lt-ltb (remainder code weight x sum b) (remainder code weight x sum a) h) refl);
+        smaller-code-first = λ a b e h. before-spare a b (rw (le-ltb (remainder code weight x sum b) (remainder code weight x sum a) (omega arith), eq-eqb (remainder code weight x sum b) (remainder code weight x sum a) (sym e), h) refl);
+        any-order = λ none is below once full a. share-alike code weight x (picked none all is) all (λ f z. sum-chosen f none all is below once (λ i l q. absurd (omega (arith, ap oneIf (sym (full i l) ∙ q))))) a;
+      }

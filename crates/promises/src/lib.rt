@@ -1,0 +1,1 @@
+// What the user was promised, as theorems, in specs/; no code.
