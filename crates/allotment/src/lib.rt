@@ -14,8 +14,9 @@ ghost use Rattle.report.specs.Lines.{reportBytes, Ready};
 ghost use Rattle.allotment.specs.Answered.{Answered, Listed};
 ghost use Rattle.allotment.specs.Worked.{noLines, workedOf};
 
+// No customer's row: its bytes are all 0, so that many are set at once.
 const BLANK: Row = Row {
-    standing: Standing::Neither,
+    standing: Standing::Pending,
     offered: 0,
     pending: 0,
     offset: 0,

@@ -5,6 +5,8 @@ use mathlib.Core.List.{List, [], _∷_}
 use mathlib.Core.Bool.{Bool, true, false, cond}
 use lib.ListN.{length, drop}
 use lib.Dec.{leb, eqb}
+use Rattle.rules.specs.declared.Fen.{Fen}
+use Rattle.rules.specs.declared.Rate.{Rate}
 use Rattle.rules.specs.declared.Terms.{Terms}
 use Rattle.rules.specs.declared.Position.{Position}
 use Rattle.rules.specs.declared.Form.{Form}
@@ -71,14 +73,19 @@ module _ (s : List ℕ) where
   fromLock (Locked d next) k = k d next
   fromLock (NoLock r) k = NoTerms r
 
-  -- S, L, U, V, and 6
+  -- U, V, and 6
+  abbrev pub afterLoss : Bool → Fen → Rate → ℕ → TermsAt
+  afterLoss d p l atU =
+      thenTerms (figureIn atU 85 rateForm) λ u atV.
+      thenTerms (figureIn atV 86 rateForm) λ x next.
+      cond (leb u x) (NoTerms (refusal 6 atV)) (ReadTerms (record { down = d; settlement = p; loss = l; edge1 = rate u; edge2 = rate x }) next)
+
+  -- S, L, and these
   abbrev pub afterLock : Bool → ℕ → TermsAt
   afterLock d atS =
       thenTerms (figureIn atS 83 priceForm) λ p atL.
       thenTerms (figureIn atL 76 rateForm) λ l atU.
-      thenTerms (figureIn atU 85 rateForm) λ u atV.
-      thenTerms (figureIn atV 86 rateForm) λ x next.
-      cond (leb u x) (NoTerms (refusal 6 atV)) (ReadTerms (record { down = d; settlement = fen p; loss = rate l; edge1 = rate u; edge2 = rate x }) next)
+      afterLoss d (fen p) (rate l) atU
 
   unfoldable pub termsOf : TermsAt
   termsOf = fromLock (lockFrom (fieldsOf s)) afterLock

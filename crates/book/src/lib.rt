@@ -25,7 +25,7 @@ ghost use Rattle.rules.specs.Cascade.{offeredBy, pendingBy};
 ghost use Rattle.gain.specs.Ranges.{Ranged};
 ghost use Rattle.laws.specs.Gains.{lotsOn};
 ghost use Rattle.laws.specs.Groups.{groupFrom};
-ghost use Rattle.book.specs.Reading.{refusalIn, figureFrom, lockFrom, afterLock, termsOf, positionOf};
+ghost use Rattle.book.specs.Reading.{refusalIn, figureFrom, lockFrom, afterLock, afterLoss, termsOf, positionOf};
 ghost use Rattle.book.specs.Trades.{tradesFrom, oldestFrom};
 ghost use Rattle.book.specs.Group.{started, closedAt, groupAt};
 ghost use Rattle.book.specs.Ranges.{Sound, Held, Short};
@@ -73,8 +73,8 @@ pub enum GroupAt {
     Closed {
         place: usize,
         standing: Standing,
-        offered: u64,
-        pending: u64,
+        offered: u32,
+        pending: u32,
     },
     Refused(Refusal),
 }
@@ -184,7 +184,14 @@ fn terms_after(book: &[u8], down: bool, at: usize) -> TermsAt
     else {
         return TermsAt::Refused(refusal_in(l));
     };
-    let u = figure_at(book, at_u, b'U', figures::RATE);
+    edges_after(book, down, Fen(price), Rate(loss), at_u)
+}
+
+// U and V, where the terms before them are read.
+fn edges_after(book: &[u8], down: bool, settlement: Fen, loss: Rate, at: usize) -> TermsAt
+    ensures { λ r. ⌜ r ≡ afterLoss (now (book .entry)) down settlement loss at ⌝ }
+{
+    let u = figure_at(book, at, b'U', figures::RATE);
     let FigureAt::Value {
         number: edge1,
         next: at_v,
@@ -209,8 +216,8 @@ fn terms_after(book: &[u8], down: bool, at: usize) -> TermsAt
     TermsAt::Read {
         terms: Terms {
             down,
-            settlement: Fen(price),
-            loss: Rate(loss),
+            settlement,
+            loss,
             edge1: Rate(edge1),
             edge2: Rate(edge2),
         },
@@ -398,11 +405,13 @@ fn closed_at(terms: Terms, position: Position, place: usize, total: i64) -> Grou
     ensures { λ r. ⌜ r ≡ closedAt (standingAt terms position total) position place ⌝ }
 {
     let standing = gain::standing_of(terms, position, total);
+    let offered = offered_by(standing, position) as u32;
+    let pending = pending_by(standing, position) as u32;
     GroupAt::Closed {
         place,
         standing,
-        offered: offered_by(standing, position),
-        pending: pending_by(standing, position),
+        offered,
+        pending,
     }
 }
 

@@ -78,4 +78,4 @@ movedAt rows gives closes i =
 pub record Moves (rows : List Row) (count : ℕ) (gives closes : List ℕ) : Type 0 where
   pub few : count ≤ 256
   pub closed : (i : ℕ) → i < count → getD closes i 0 ≤ rowAt rows i .pending
-  pub fits : (i : ℕ) → i < count → rowAt rows i .offset + getD gives i 0 + getD closes i 0 ≤ 5000000000
+  pub fits : (i : ℕ) → i < count → rowAt rows i .offset + getD gives i 0 + getD closes i 0 ≤ 4200000000

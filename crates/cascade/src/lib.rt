@@ -12,9 +12,9 @@ ghost use Rattle.cascade.specs.State.{linesOf, afterTier, afterAll, Stea
 // A customer of the roll, without its code.
 pub struct Row {
     pub standing: Standing,
-    pub offered: u64,
-    pub pending: u64,
-    pub offset: u64,
+    pub offered: u32,
+    pub pending: u32,
+    pub offset: u32,
 }
 
 // The first `count` keys and rows are the customers'; `total` is the sum of the quantities so far.
@@ -39,10 +39,14 @@ fn tier_of(standing: Standing) -> u64
 }
 
 // What a customer offers in tier k.
-fn offered_in(k: u64, standing: Standing, offered: u64) -> u64
+fn offered_in(k: u64, standing: Standing, offered: u32) -> u64
     ensures { λ r. ⌜ r ≡ cond (eqb (tierOf standing) k) offered 0 ⌝ }
 {
-    if tier_of(standing) == k { offered } else { 0 }
+    if tier_of(standing) == k {
+        offered as u64
+    } else {
+        0
+    }
 }
 
 // What each customer offers in a tier, and what each still has pending.
@@ -62,7 +66,7 @@ fn weigh(rows: [Row; 256], count: usize, k: u64) -> Weights
         let row = rows[i];
         let standing = row.standing;
         offered[i] = offered_in(k, standing, row.offered);
-        pending[i] = row.pending;
+        pending[i] = row.pending as u64;
         i += 1;
     }
     Weights {
@@ -81,8 +85,8 @@ fn move_lots(rows: [Row; 256], count: usize, gives: &[u64; 256], closes: &[u64; 
     while i < count {
         let row = moved[i];
         let standing = row.standing;
-        let given = gives[i];
-        let closed = closes[i];
+        let given = gives[i] as u32;
+        let closed = closes[i] as u32;
         let pending = row.pending - closed;
         let offset = row.offset + given + closed;
         moved[i] = Row {
@@ -125,12 +129,18 @@ impl Cascade {
         self
     }
 
-    // The three tiers.
+    // The three tiers; k is the last that was worked. With one call of `tier` its code, and its room, is the caller's own.
     pub fn run(self) -> Cascade
         requires { ⌜ Steady 0 self ⌝ }
         ensures { λ r. ⌜ r ≡ afterAll self ⌝ }
     {
-        self.tier(1).tier(2).tier(3)
+        let mut state = self;
+        let mut k: u64 = 0;
+        while k < 3 {
+            k += 1;
+            state = state.tier(k);
+        }
+        state
     }
 
     // What is still pending.
@@ -143,7 +153,7 @@ impl Cascade {
         let mut i: usize = 0;
         while i < count {
             let row = self.rows[i];
-            sum += row.pending;
+            sum += row.pending as u64;
             i += 1;
         }
         sum

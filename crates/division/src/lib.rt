@@ -1,6 +1,6 @@
 // X lots over weights by largest remainders; equal remainders go to the smaller key.
 ghost use mathlib.Core.Path.{_≡_};
-ghost use Prim.Native.Nat.{_+_, _≤_, min, max};
+ghost use Prim.Native.Nat.{_+_, _-_, _/_, _%_, _≤_, _<_, min, max};
 ghost use lib.ListN.{length};
 ghost use Rattle.rules.specs.Division.{sumOf, oneIf};
 ghost use Rattle.laws.specs.Sums.{upTo};
@@ -35,6 +35,29 @@ pub fn total(weights: &[u64; 256], count: usize) -> u64
     sum
 }
 
+// A member's whole lots, and what it lacks of one more.
+struct Part {
+    whole: u64,
+    lack: u64,
+}
+
+// A product of x and a weight, divided by the sum. Most customers have no weight in most divisions: nothing is divided then.
+fn part_of(product: u64, sum: u64) -> Part
+    requires { ⌜ 0 < sum ⌝ }
+    ensures { λ r. ⌜ (r .whole ≡ product / sum) × (r .lack ≡ sum - product % sum) ⌝ }
+{
+    if product == 0 {
+        return Part {
+            whole: 0,
+            lack: sum,
+        };
+    }
+    Part {
+        whole: product / sum,
+        lack: sum - product % sum,
+    }
+}
+
 // Puts what each member lacks into `lots`. Returns the sum of the whole parts.
 fn spread(weights: &[u64; 256], count: usize, x: u64, sum: u64, lots: &mut [u64; 256]) -> u64
     requires { ⌜ Ready (now weights) (now lots) count x sum ⌝ }
@@ -43,9 +66,9 @@ fn spread(weights: &[u64; 256], count: usize, x: u64, sum: u64, lots: &mut [u64;
     let mut whole: u64 = 0;
     let mut i: usize = 0;
     while i < count {
-        let product = x * weights[i];
-        lots[i] = sum - product % sum;
-        whole += product / sum;
+        let part = part_of(x * weights[i], sum);
+        lots[i] = part.lack;
+        whole += part.whole;
         i += 1;
     }
     whole
@@ -194,8 +217,8 @@ fn settle(
     let most = last.key;
     let mut i: usize = 0;
     while i < count {
-        let product = x * weights[i];
-        lots[i] = product / sum + one_more(sum - product % sum, keys[i], edge, most);
+        let part = part_of(x * weights[i], sum);
+        lots[i] = part.whole + one_more(part.lack, keys[i], edge, most);
         i += 1;
     }
 }

@@ -38,7 +38,7 @@ pub fn report_length(l: Lines) -> usize
     let mut i: usize = 0;
     while i < count {
         let row = rows[i];
-        n += line_length(sizes[i] as usize, row.offset);
+        n += line_length(sizes[i] as usize, row.offset as u64);
         i += 1;
     }
     n
@@ -61,7 +61,7 @@ pub fn put_report(out: &mut [u8], l: Lines) -> usize
         let standing = row.standing;
         let start = 12 * customer;
         let end = start + sizes[customer] as usize;
-        at = writing::put_reported(out, at, &codes[start..end], standing, row.offset);
+        at = writing::put_reported(out, at, &codes[start..end], standing, row.offset as u64);
         customer += 1;
     }
     at
@@ -84,7 +84,7 @@ pub fn put_listing(out: &mut [u8], l: Lines) -> usize
         let standing = row.standing;
         let start = 12 * line;
         let end = start + sizes[line] as usize;
-        at = writing::put_printed(out, at, &codes[start..end], standing, row.offset);
+        at = writing::put_printed(out, at, &codes[start..end], standing, row.offset as u64);
         line += 1;
     }
     at

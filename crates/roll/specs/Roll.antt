@@ -3,30 +3,38 @@
 use Prim.Native.Nat.{ℕ, _-_}
 use mathlib.Core.List.{List, [], _∷_, _++_, map}
 use mathlib.Core.Bool.{cond}
-use lib.ListN.{length, replicate}
+use lib.ListN.{length, take, drop, replicate}
 use lib.Dec.{leb, ltb}
 use Rattle.rules.specs.declared.Terms.{Terms}
-use Rattle.rules.specs.declared.Standing.the-variants.{Neither}
+use Rattle.rules.specs.declared.Standing.the-variants.{Pending}
 use Rattle.rules.specs.Fields.{Field, fieldsOf}
-use Rattle.rules.specs.Book.{Customer, InGroup, Nobody, Reading, Verdict, Refused, Accepted, walk, judge}
+use Rattle.rules.specs.Book.{Customer, InGroup, Nobody, Reading, Verdict, Refused, Accepted, Coded, walk, judge}
 use Rattle.rules.specs.Standing.{standing}
 use Rattle.rules.specs.Cascade.{offeredBy, pendingBy}
 use Rattle.laws.specs.Keys.{keyOf}
+use Rattle.laws.specs.Groups.{groupFrom}
 use Rattle.laws.specs.Padded.{padded}
 use Rattle.laws.specs.Blocks.{blocks}
 use Rattle.codes.specs.declared.Code.{Code}
 use Rattle.codes.specs.declared.Code.the-variants.{Key, Malformed}
 use Rattle.codes.specs.Codes.{codeOf, givenIn}
 use Rattle.book.specs.declared.Refusal.{Refusal}
+use Rattle.book.specs.declared.GroupAt.{GroupAt}
+use Rattle.book.specs.declared.GroupAt.the-variants.{Closed}
+use Rattle.book.specs.declared.GroupAt.the-variants.{Refused as NoGroup}
 use Rattle.book.specs.Reading.{refusal}
+use Rattle.book.specs.Group.{groupAt}
 use Rattle.cascade.specs.declared.Row.{Row}
 use Rattle.roll.specs.declared.Roll.{Roll}
 use Rattle.roll.specs.declared.CodeAt.{CodeAt}
 use Rattle.roll.specs.declared.CodeAt.the-variants.{Key as NewKey}
 use Rattle.roll.specs.declared.CodeAt.the-variants.{Refused as NoCode}
+use Rattle.roll.specs.declared.CustomerAt.{CustomerAt}
+use Rattle.roll.specs.declared.CustomerAt.the-variants.{New as NewCustomer}
+use Rattle.roll.specs.declared.CustomerAt.the-variants.{Refused as NoCustomer}
 
 abbrev pub blank : Row
-blank = record { standing = Neither; offered = 0; pending = 0; offset = 0 }
+blank = record { standing = Pending; offered = 0; pending = 0; offset = 0 }
 
 -- a customer's row, with nothing offset yet
 unfoldable pub rowOf : Terms → Customer → Row
@@ -79,6 +87,18 @@ newCode at keys Malformed = NoCode (refusal 5 at)
 
 abbrev pub codeAt : ℕ → ℕ → List ℕ → List ℕ → CodeAt
 codeAt at count keys v = cond (leb 256 count) (NoCode (refusal 10 at)) (newCode at keys (codeOf v))
+
+-- a customer with a new key, and its group
+abbrev pub customerOf : CodeAt → GroupAt → CustomerAt
+customerOf (NewKey key) (Closed place s offered pending) = NewCustomer key place (record { standing = s; offered = offered; pending = pending; offset = 0 })
+customerOf (NewKey key) (NoGroup r) = NoCustomer r
+customerOf (NoCode r) g = NoCustomer r
+
+-- at a C, whose value stands from start to end
+abbrev pub customerAt : List ℕ → Terms → List ℕ → ℕ → ℕ → ℕ → ℕ → CustomerAt
+customerAt s terms keys count at start end =
+    let v = take (end - start) (drop start s) in
+    customerOf (codeAt at count (take count keys) v) (groupAt terms (groupFrom terms (Coded v) at end (fieldsOf (drop end s))))
 
 -- 5, and 3 behind Z
 abbrev pub endAt : ℕ → ℕ → ℕ → ℕ → Refusal

@@ -13,7 +13,7 @@ ghost use Prim.Native.Nat.{ℕ, _-_, _≤_};
 ghost use lib.ListN.{length, take, drop};
 ghost use Rattle.rules.specs.Fields.{fieldsOf};
 ghost use Rattle.book.specs.Ranges.{Sound, Short};
-ghost use Rattle.roll.specs.Roll.{noRoll, codeAt, endAt, rollFrom, rollOf};
+ghost use Rattle.roll.specs.Roll.{noRoll, codeAt, customerAt, endAt, rollFrom, rollOf};
 
 // Either a refusal, or number 0 and the customers: how many, their codes in blocks of 12 bytes with their lengths, their keys
 // and their rows.
@@ -32,8 +32,15 @@ pub enum CodeAt {
     Refused(Refusal),
 }
 
+// A new customer: its key, where its group ends, and its row.
+pub enum CustomerAt {
+    New { key: u64, place: usize, row: Row },
+    Refused(Refusal),
+}
+
+// No customer's row: its bytes are all 0, so that many are set at once.
 const BLANK: Row = Row {
-    standing: Standing::Neither,
+    standing: Standing::Pending,
     offered: 0,
     pending: 0,
     offset: 0,
@@ -84,6 +91,42 @@ fn code_at(
             number: 5,
             place: at,
         }),
+    }
+}
+
+// 10, 5 and 7 at a C, whose value stands from start to end, and the group behind it.
+fn customer_at(
+    book: &[u8],
+    terms: Terms,
+    keys: &[u64; 256],
+    count: usize,
+    at: usize,
+    start: usize,
+    end: usize,
+) -> CustomerAt
+    requires { ⌜ Short (now book) ⌝ ∗ ⌜ Sound terms ⌝ ∗ ⌜ (start ≤ end) × (end ≤ length (now book)) ⌝ ∗ ⌜ count ≤ length (now keys) ⌝ }
+    ensures { λ r. ⌜ r ≡ customerAt (now (book .entry)) terms (now (keys .entry)) count at start end ⌝ }
+{
+    match code_at(book, keys, count, at, start, end) {
+        CodeAt::Key(key) => match book::read_group(book, terms, at, end) {
+            GroupAt::Closed {
+                place,
+                standing,
+                offered,
+                pending,
+            } => CustomerAt::New {
+                key,
+                place,
+                row: Row {
+                    standing,
+                    offered,
+                    pending,
+                    offset: 0,
+                },
+            },
+            GroupAt::Refused(r) => CustomerAt::Refused(r),
+        },
+        CodeAt::Refused(r) => CustomerAt::Refused(r),
     }
 }
 
@@ -141,29 +184,16 @@ fn read_customers(book: &[u8], terms: Terms, first: usize) -> Roll
         if tag != b'C' {
             return refused(3, at);
         }
-        match code_at(book, &keys, count, at, start, end) {
-            CodeAt::Key(key) => match book::read_group(book, terms, at, end) {
-                GroupAt::Closed {
-                    place,
-                    standing,
-                    offered,
-                    pending,
-                } => {
-                    writing::put_bytes(&mut codes, 12 * count, &book[start..end]);
-                    keys[count] = key;
-                    sizes[count] = (end - start) as u8;
-                    rows[count] = Row {
-                        standing,
-                        offered,
-                        pending,
-                        offset: 0,
-                    };
-                    count += 1;
-                    at = place;
-                }
-                GroupAt::Refused(r) => return refused(r.number, r.place),
-            },
-            CodeAt::Refused(r) => return refused(r.number, r.place),
+        match customer_at(book, terms, &keys, count, at, start, end) {
+            CustomerAt::New { key, place, row } => {
+                writing::put_bytes(&mut codes, 12 * count, &book[start..end]);
+                keys[count] = key;
+                sizes[count] = (end - start) as u8;
+                rows[count] = row;
+                count += 1;
+                at = place;
+            }
+            CustomerAt::Refused(r) => return refused(r.number, r.place),
         }
     }
 }

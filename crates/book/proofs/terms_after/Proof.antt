@@ -1,6 +1,5 @@
--- `book::terms_after` meets its contract: the definition goes on as the code does, figure by figure.
+-- `book::terms_after` meets its contract: the definition goes on as the code does, figure by figure, and then with the edges.
 -- Assumes nothing.
-use borrow.Author.Tests.{le-leb, lt-leb}
 use mathlib.Core.Path.{sym, _∙_}
 use borrow.Author.Needs.{needs}
 use Rattle.book.proofs.terms_after.Statement.{statement}
@@ -9,6 +8,7 @@ use Rattle.book.proofs.terms_after.Reads as reads
 use Rattle.book.proofs.terms_after.Lts as lts
 use Rattle.book.proofs.figure_at.Reads as figure-at-reads
 use Rattle.book.proofs.refusal_in.Reads as refusal-in-reads
+use Rattle.book.proofs.edges_after.Reads as edges-after-reads
 
 figure-at-requires : tie.Need-figure-at-requires
 figure-at-requires c κs = search needs
@@ -45,60 +45,14 @@ returns-2 c =
     let t = c .before .enum-told2 .given .1 in
     simp (c .refusal-in2 .ensures, t, es, sym (c .before .before .before .figure-at2 .ensures) ∙ t)
 
-figure-at-requires-3 : tie.Need-figure-at-requires-3
-figure-at-requires-3 c κs = search needs
-
-enum-known-u : tie.Need-enum-known-u
-enum-known-u c = search needs
-
-enum-told-3 : tie.Need-enum-told-3
-enum-told-3 c = search needs
-
-refusal-in-requires-3 : tie.Need-refusal-in-requires-3
-refusal-in-requires-3 c κs = search needs
+edges-after-requires : tie.Need-edges-after-requires
+edges-after-requires c κs = search needs
 
 returns-3 : tie.Need-returns-3
 returns-3 c =
-    let xl = c .before .before .before .before .before in let el = sym (xl .before .before .figure-at2 .ensures) ∙ xl .l .given .1 in
+    let xl = c .before .before in let el = sym (xl .before .before .figure-at2 .ensures) ∙ xl .l .given .1 in
     let xs = xl .before .before .before .before in let es = sym (xs .before .before .figure-at .ensures) ∙ xs .s .given .1 in
-    let t = c .before .enum-told3 .given .1 in
-    simp (c .refusal-in3 .ensures, t, es, el, sym (c .before .before .before .figure-at3 .ensures) ∙ t)
-
-figure-at-requires-4 : tie.Need-figure-at-requires-4
-figure-at-requires-4 c κs = search needs
-
-enum-known-v : tie.Need-enum-known-v
-enum-known-v c = search needs
-
-enum-told-4 : tie.Need-enum-told-4
-enum-told-4 c = search needs
-
-refusal-in-requires-4 : tie.Need-refusal-in-requires-4
-refusal-in-requires-4 c κs = search needs
-
-returns-4 : tie.Need-returns-4
-returns-4 c =
-    let xu = c .before .before .before .before .before in let eu = sym (xu .before .before .figure-at3 .ensures) ∙ xu .u .given .1 in
-    let xl = xu .before .before .before .before in let el = sym (xl .before .before .figure-at2 .ensures) ∙ xl .l .given .1 in
-    let xs = xl .before .before .before .before in let es = sym (xs .before .before .figure-at .ensures) ∙ xs .s .given .1 in
-    let t = c .before .enum-told4 .given .1 in
-    simp (c .refusal-in4 .ensures, t, es, el, eu, sym (c .before .before .before .figure-at4 .ensures) ∙ t)
-
-returns-5 : tie.Need-returns-5
-returns-5 c =
-    let xv = c .before .before in let ev = sym (xv .before .before .figure-at4 .ensures) ∙ xv .v .given .1 in
-    let xu = xv .before .before .before .before in let eu = sym (xu .before .before .figure-at3 .ensures) ∙ xu .u .given .1 in
-    let xl = xu .before .before .before .before in let el = sym (xl .before .before .figure-at2 .ensures) ∙ xl .l .given .1 in
-    let xs = xl .before .before .before .before in let es = sym (xs .before .before .figure-at .ensures) ∙ xs .s .given .1 in
-    simp (es, el, eu, ev, le-leb _ _ (c .if1 .taken))
-
-returns-6 : tie.Need-returns-6
-returns-6 c =
-    let xv = c .before .before in let ev = sym (xv .before .before .figure-at4 .ensures) ∙ xv .v .given .1 in
-    let xu = xv .before .before .before .before in let eu = sym (xu .before .before .figure-at3 .ensures) ∙ xu .u .given .1 in
-    let xl = xu .before .before .before .before in let el = sym (xl .before .before .figure-at2 .ensures) ∙ xl .l .given .1 in
-    let xs = xl .before .before .before .before in let es = sym (xs .before .before .figure-at .ensures) ∙ xs .s .given .1 in
-    simp (es, el, eu, ev, lt-leb _ _ (c .if1 .left))
+    c .edges-after .ensures ∙ simp (es, el)
 
 pub terms-after-spec : {M : Type 1} → statement M
 terms-after-spec =
@@ -114,15 +68,5 @@ terms-after-spec =
     enum-told-2
     refusal-in-requires-2
     returns-2
-    figure-at-requires-3
-    enum-known-u
-    enum-told-3
-    refusal-in-requires-3
-    returns-3
-    figure-at-requires-4
-    enum-known-v
-    enum-told-4
-    refusal-in-requires-4
-    returns-4
-    returns-5
-    returns-6)
+    edges-after-requires
+    returns-3)

@@ -34,11 +34,17 @@ mul-given c = search needs
 element-copy-out-given : tie.Need-element-copy-out-given Inv-loop μ-loop
 element-copy-out-given c = search needs
 
+cast-given : tie.Need-cast-given Inv-loop μ-loop
+cast-given c = let b = c .before .before .before in omega (arith, b .before .pre .fits (b .loop .i) (omega arith))
+
 mul-closed : tie.Need-mul-closed Inv-loop μ-loop
 mul-closed c = search needs
 
 element-copy-out-closed : tie.Need-element-copy-out-closed Inv-loop μ-loop
 element-copy-out-closed c = search needs
+
+cast-closed : tie.Need-cast-closed Inv-loop μ-loop
+cast-closed c = let b = c .before .before .before .before in omega (arith, b .before .pre .fits (b .loop .i) (omega arith))
 
 sub-pending : tie.Need-sub-pending Inv-loop μ-loop
 sub-pending c = let b = c .before .before .before .before .before in
@@ -84,8 +90,10 @@ move-lots-spec =
     array-copy-out-row
     mul-given
     element-copy-out-given
+    cast-given
     mul-closed
     element-copy-out-closed
+    cast-closed
     sub-pending
     add-offset
     add-offset-2

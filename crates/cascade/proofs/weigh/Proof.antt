@@ -34,6 +34,9 @@ mul-offered c = search needs
 array-write-offered : tie.Need-array-write-offered Inv-loop μ-loop
 array-write-offered c = search needs
 
+cast-pending : tie.Need-cast-pending Inv-loop μ-loop
+cast-pending c = search needs
+
 mul-pending : tie.Need-mul-pending Inv-loop μ-loop
 mul-pending c = search needs
 
@@ -47,12 +50,12 @@ loop-less : tie.Need-loop-less Inv-loop μ-loop
 loop-less c = search needs
 
 loop-again : tie.Need-loop-again Inv-loop μ-loop
-loop-again c = let s = c .before .before .before .before .args in
-    let b = c .before .before .before .loop in (
+loop-again c = let s = c .before .before .before .before .before .args in
+    let b = c .before .before .before .before .loop in (
       search needs,
       record {
         size = b .inv .1 .size;
-        offers = rw (b .inv .1 .offers, c .offered-in .ensures) (filled-more (offeredAt (s .k) (s .t1)) (b .i) (replicate 256 0) 0 (omega arith));
+        offers = rw (b .inv .1 .offers, c .before .offered-in .ensures) (filled-more (offeredAt (s .k) (s .t1)) (b .i) (replicate 256 0) 0 (omega arith));
         waits = rw (b .inv .1 .waits) (filled-more (pendingAt (s .t1)) (b .i) (replicate 256 0) 0 (omega arith));
       },
     )
@@ -72,6 +75,7 @@ weigh-spec =
     offered-in-requires
     mul-offered
     array-write-offered
+    cast-pending
     mul-pending
     array-write-pending
     add-i

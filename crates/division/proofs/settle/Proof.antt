@@ -20,23 +20,17 @@ abbrev μ-loop : tie.MeasureT-loop
 loop-holds : tie.Need-loop-holds Inv-loop μ-loop
 loop-holds c = (search needs, record { settled = refl })
 
-mul-product : tie.Need-mul-product Inv-loop μ-loop
-mul-product c = search needs
+mul-part-of : tie.Need-mul-part-of Inv-loop μ-loop
+mul-part-of c = search needs
 
-element-copy-out-product : tie.Need-element-copy-out-product Inv-loop μ-loop
-element-copy-out-product c = search needs
+element-copy-out-part-of : tie.Need-element-copy-out-part-of Inv-loop μ-loop
+element-copy-out-part-of c = search needs
 
-mul-product-2 : tie.Need-mul-product-2 Inv-loop μ-loop
-mul-product-2 c = omega (arith, product-le (c .before .before .before .pre) (c .before .before .loop .i) (omega arith))
+mul-part-of-2 : tie.Need-mul-part-of-2 Inv-loop μ-loop
+mul-part-of-2 c = omega (arith, product-le (c .before .before .before .pre) (c .before .before .loop .i) (omega arith))
 
-div-lots : tie.Need-div-lots Inv-loop μ-loop
-div-lots c = search needs
-
-rem-one-more : tie.Need-rem-one-more Inv-loop μ-loop
-rem-one-more c = search needs
-
-sub-one-more : tie.Need-sub-one-more Inv-loop μ-loop
-sub-one-more c = rest-le (c .before .before .before .pre) (c .before .before .loop .i)
+part-of-requires : tie.Need-part-of-requires Inv-loop μ-loop
+part-of-requires c κs = c .before .before .before .pre .some
 
 mul-one-more : tie.Need-mul-one-more Inv-loop μ-loop
 mul-one-more c = search needs
@@ -49,7 +43,7 @@ one-more-requires c κs = search needs
 
 add-lots : tie.Need-add-lots Inv-loop μ-loop
 add-lots c =
-    omega (arith, whole-le (c .before .before .before .before .before .pre) (c .before .before .before .before .loop .i) (omega arith))
+    omega (arith, c .before .before .before .part-of .ensures .0, whole-le (c .before .before .before .before .before .before .before .pre) (c .before .before .before .before .before .before .loop .i) (omega arith))
 
 mul-lots : tie.Need-mul-lots Inv-loop μ-loop
 mul-lots c = search needs
@@ -66,12 +60,12 @@ loop-less c = search needs
 loop-again : tie.Need-loop-again Inv-loop μ-loop
 unfolding lotsAt
 loop-again c =
-    let s = c .before .before .before .before .before in
-    let l = c .before .before .before .before .loop in
+    let s = c .before .before .before .before .before .before .before in
+    let l = c .before .before .before .before .before .before .loop in
     let a = s .args in
     let lots = lotsAt (a .weights .now) (a .keys .now) (a .x) (a .sum) (a .last .lack) (a .last .key) in
     let more = over-map lots (a .lots .now) (l .i) (inside (s .pre) (l .i) (omega arith)) in
-    (search needs, record { settled = rw (l .inv .1 .settled, c .one-more .ensures .0) more })
+    (search needs, record { settled = rw (l .inv .1 .settled, c .before .one-more .ensures .0, c .before .before .before .part-of .ensures .0, c .before .before .before .part-of .ensures .1) more })
 
 returns : tie.Need-returns Inv-loop μ-loop
 returns c = let e : c .before .loop .i ≡ c .before .before .args .count = omega arith in rw e at (c .before .loop .inv .1)
@@ -83,12 +77,10 @@ settle-spec =
     Inv-loop
     μ-loop
     loop-holds
-    mul-product
-    element-copy-out-product
-    mul-product-2
-    div-lots
-    rem-one-more
-    sub-one-more
+    mul-part-of
+    element-copy-out-part-of
+    mul-part-of-2
+    part-of-requires
     mul-one-more
     element-copy-out-one-more
     one-more-requires

@@ -21,20 +21,17 @@ abbrev μ-loop : tie.MeasureT-loop
 loop-holds : tie.Need-loop-holds Inv-loop μ-loop
 loop-holds c = (search needs, record { whole = refl; lacks = refl })
 
-mul-product : tie.Need-mul-product Inv-loop μ-loop
-mul-product c = search needs
+mul-part-of : tie.Need-mul-part-of Inv-loop μ-loop
+mul-part-of c = search needs
 
-element-copy-out-product : tie.Need-element-copy-out-product Inv-loop μ-loop
-element-copy-out-product c = search needs
+element-copy-out-part-of : tie.Need-element-copy-out-part-of Inv-loop μ-loop
+element-copy-out-part-of c = search needs
 
-mul-product-2 : tie.Need-mul-product-2 Inv-loop μ-loop
-mul-product-2 c = omega (arith, product-le (c .before .before .before .pre) (c .before .before .loop .i) (omega arith))
+mul-part-of-2 : tie.Need-mul-part-of-2 Inv-loop μ-loop
+mul-part-of-2 c = omega (arith, product-le (c .before .before .before .pre) (c .before .before .loop .i) (omega arith))
 
-rem-lots : tie.Need-rem-lots Inv-loop μ-loop
-rem-lots c = search needs
-
-sub-lots : tie.Need-sub-lots Inv-loop μ-loop
-sub-lots c = rest-le (c .before .before .before .pre) (c .before .before .loop .i)
+part-of-requires : tie.Need-part-of-requires Inv-loop μ-loop
+part-of-requires c κs = c .before .before .before .pre .some
 
 mul-lots : tie.Need-mul-lots Inv-loop μ-loop
 mul-lots c = search needs
@@ -42,14 +39,11 @@ mul-lots c = search needs
 element-write-lots : tie.Need-element-write-lots Inv-loop μ-loop
 element-write-lots c = search needs
 
-div-whole : tie.Need-div-whole Inv-loop μ-loop
-div-whole c = search needs
-
 add-whole : tie.Need-add-whole Inv-loop μ-loop
 add-whole c =
-    let r = c .before .before .before .pre in
-    let l = c .before .before .loop in
-    omega (arith, l .inv .1 .whole, wholes-le r (l .i) (omega arith), whole-le r (l .i) (omega arith), r .asked .bounded .few)
+    let r = c .before .before .before .before .before .pre in
+    let l = c .before .before .before .before .loop in
+    omega (arith, c .before .part-of .ensures .0, l .inv .1 .whole, wholes-le r (l .i) (omega arith), whole-le r (l .i) (omega arith), r .asked .bounded .few)
 
 add-i : tie.Need-add-i Inv-loop μ-loop
 add-i c = search needs
@@ -59,13 +53,13 @@ loop-less c = search needs
 
 loop-again : tie.Need-loop-again Inv-loop μ-loop
 loop-again c =
-    let s = c .before .before .before in
-    let l = c .before .before .loop in
+    let s = c .before .before .before .before .before in
+    let l = c .before .before .before .before .loop in
     let lack = lackAt (s .args .weights .now) (s .args .x) (s .args .sum) in (
       search needs,
       record {
-        whole = rw sum-more (omega (arith, l .inv .1 .whole));
-        lacks = rw (l .inv .1 .lacks) (over-map lack (s .args .lots .now) (l .i) (inside (s .pre) (l .i) (omega arith)));
+        whole = rw sum-more (omega (arith, c .before .part-of .ensures .0, l .inv .1 .whole));
+        lacks = rw (l .inv .1 .lacks, c .before .part-of .ensures .1) (over-map lack (s .args .lots .now) (l .i) (inside (s .pre) (l .i) (omega arith)));
       },
     )
 
@@ -79,14 +73,12 @@ spread-spec =
     Inv-loop
     μ-loop
     loop-holds
-    mul-product
-    element-copy-out-product
-    mul-product-2
-    rem-lots
-    sub-lots
+    mul-part-of
+    element-copy-out-part-of
+    mul-part-of-2
+    part-of-requires
     mul-lots
     element-write-lots
-    div-whole
     add-whole
     add-i
     loop-less

@@ -68,9 +68,12 @@ part-put-printed-end c =
     let ends : 12 * i + getD (s .args .l .sizes) i 0 ≤ length (s .args .l .codes) = omega (arith, s .pre .0 .few, size, short) in
     ends
 
+cast-put-printed : tie.Need-cast-put-printed Inv-loop μ-loop
+cast-put-printed c = search needs
+
 put-printed-requires : tie.Need-put-printed-requires Inv-loop μ-loop
 put-printed-requires c κs =
-    let b = c .before .before .before .before .before in
+    let b = c .before .before .before .before .before .before in
     let h = b .before .before .before in
     let s = h .before .before .before .before .before .before in
     let l = s .args .l in
@@ -83,15 +86,19 @@ add-line c = search needs
 loop-less : tie.Need-loop-less Inv-loop μ-loop
 loop-less c = search needs
 
+-- one line more is at most all
+next : (d : tie.In-loop Inv-loop μ-loop) → d .before .loop .line + 1 ≤ d .before .before .before .before .before .before .before .before .before .before .args .l .count
+next d = search needs
+
 loop-again : tie.Need-loop-again Inv-loop μ-loop
 loop-again c =
-    let b = c .before .before .before .before .before .before .before .before in
+    let b = c .before .before .before .before .before .before .before .before .before in
     let h = b .before .before .before in
     let s = h .before .before .before .before .before .before in
     let l = s .args .l in
     let i = b .loop .line in
     let put = rw (size-back (12 * i) (getD (l .sizes) i 0)) at (c .before .before .put-printed .ensures) in
-    (search needs, omega arith, piece-joins printed (lineAt l) i (b .loop .inv .2) put (omega (arith, room s, h .put-printed-head .ensures .next, length-append (listedHead (l .total) (l .residue)) (first printed (lineAt l) (l .count)))))
+    (next (c .before .before .before .before .before .before .before .before), omega arith, piece-joins printed (lineAt l) i (b .loop .inv .2) put (omega (arith, room s, h .put-printed-head .ensures .next, length-append (listedHead (l .total) (l .residue)) (first printed (lineAt l) (l .count)))))
 
 same-length : tie.Need-same-length Inv-loop μ-loop
 same-length c = search needs
@@ -123,6 +130,7 @@ put-listing-spec =
     sub-put-printed
     part-put-printed-start
     part-put-printed-end
+    cast-put-printed
     put-printed-requires
     add-line
     loop-less

@@ -68,9 +68,12 @@ part-put-reported-end c =
     let ends : 12 * i + getD (s .args .l .sizes) i 0 ≤ length (s .args .l .codes) = omega (arith, s .pre .0 .few, size, short) in
     ends
 
+cast-put-reported : tie.Need-cast-put-reported Inv-loop μ-loop
+cast-put-reported c = search needs
+
 put-reported-requires : tie.Need-put-reported-requires Inv-loop μ-loop
 put-reported-requires c κs =
-    let b = c .before .before .before .before .before in
+    let b = c .before .before .before .before .before .before in
     let h = b .before .before .before in
     let s = h .before .before .before .before .before .before in
     let l = s .args .l in
@@ -86,15 +89,19 @@ add-customer c = search needs
 loop-less : tie.Need-loop-less Inv-loop μ-loop
 loop-less c = search needs
 
+-- one line more is at most all
+next : (d : tie.In-loop Inv-loop μ-loop) → d .before .loop .customer + 1 ≤ d .before .before .before .before .before .before .before .before .before .before .args .l .count
+next d = search needs
+
 loop-again : tie.Need-loop-again Inv-loop μ-loop
 loop-again c =
-    let b = c .before .before .before .before .before .before .before .before in
+    let b = c .before .before .before .before .before .before .before .before .before in
     let h = b .before .before .before in
     let s = h .before .before .before .before .before .before in
     let l = s .args .l in
     let i = b .loop .customer in
     let put = rw (size-back (12 * i) (getD (l .sizes) i 0)) at (c .before .before .put-reported .ensures) in
-    (search needs, omega arith, piece-joins reported (lineAt l) i (b .loop .inv .2) put (omega (arith, room s, h .put-head .ensures .next, length-append (reportHead (l .total) (l .residue)) (first reported (lineAt l) (l .count)))))
+    (next (c .before .before .before .before .before .before .before .before), omega arith, piece-joins reported (lineAt l) i (b .loop .inv .2) put (omega (arith, room s, h .put-head .ensures .next, length-append (reportHead (l .total) (l .residue)) (first reported (lineAt l) (l .count)))))
 
 same-length : tie.Need-same-length Inv-loop μ-loop
 same-length c = search needs
@@ -126,6 +133,7 @@ put-report-spec =
     sub-put-reported
     part-put-reported-start
     part-put-reported-end
+    cast-put-reported
     put-reported-requires
     add-customer
     loop-less

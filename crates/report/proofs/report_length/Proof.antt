@@ -63,12 +63,15 @@ array-read-line-length c = search needs
 cast-line-length : tie.Need-cast-line-length Inv-loop μ-loop
 cast-line-length c = search needs
 
+cast-line-length-2 : tie.Need-cast-line-length-2 Inv-loop μ-loop
+cast-line-length-2 c = search needs
+
 line-length-requires : tie.Need-line-length-requires Inv-loop μ-loop
-line-length-requires c κs = let s = c .before .before .before .before .before .before in omega (arith, s .pre .short (c .before .before .loop .i) (omega arith))
+line-length-requires c κs = let s = c .before .before .before .before .before .before .before in omega (arith, s .pre .short (c .before .before .before .loop .i) (omega arith))
 
 add-n : tie.Need-add-n Inv-loop μ-loop
 add-n c =
-    let s = c .before .before .before .before .before .before .before in
+    let s = c .before .before .before .before .before .before .before .before in
     omega (arith, s .pre .few, c .line-length .ensures)
 
 add-i : tie.Need-add-i Inv-loop μ-loop
@@ -98,6 +101,7 @@ report-length-spec =
     array-copy-out-row
     array-read-line-length
     cast-line-length
+    cast-line-length-2
     line-length-requires
     add-n
     add-i

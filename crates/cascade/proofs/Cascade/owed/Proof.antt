@@ -27,6 +27,9 @@ mul-row c = search needs
 element-copy-out-row : tie.Need-element-copy-out-row Inv-loop μ-loop
 element-copy-out-row c = search needs
 
+cast-sum : tie.Need-cast-sum Inv-loop μ-loop
+cast-sum c = search needs
+
 add-sum : tie.Need-add-sum Inv-loop μ-loop
 add-sum c = let s = c .before .before .before .before in let i = c .before .before .before .loop .i in
     omega (arith, s .pre .few, sum-bound (pendingAt (s .args .t1 .rows)) 4000000 i (λ k l. s .pre .each k (omega arith) .pending), s .pre .each i (omega arith) .pending)
@@ -55,6 +58,7 @@ owed-spec =
     loop-holds
     mul-row
     element-copy-out-row
+    cast-sum
     add-sum
     add-i
     loop-less
