@@ -1,7 +1,10 @@
 #!/usr/bin/env python3
 """Writes the sample books of this folder, each with the listing that document 01 gives it: NAME.book and NAME.txt.
 
-The listings are written out here by hand, from document 01, and not taken from any program. Run it in this folder."""
+The listings are written out here by hand, from document 01, and not taken from any program. Run it in this folder.
+
+The one exception is typical.txt, too long to write by hand. This script writes its book alone; its listing is what the second program
+printed, and the gate holds both programs to it. In the folder above: target/cargo/release/second < examples/typical.book"""
 
 
 def field(tag, value):
@@ -50,6 +53,66 @@ def sized(size):
     return book
 
 
+class Row:
+    """A fixed row of numbers by a formula of its own, so that the book is the same wherever and whenever it is made."""
+
+    def __init__(self, start):
+        self.x = start
+
+    def among(self, low, high):
+        """The next number, from low to high."""
+        self.x = (self.x * 6_364_136_223_846_793_005 + 1_442_695_040_888_963_407) % 2**64
+        return low + (self.x >> 33) % (high - low + 1)
+
+
+# Customers by what they did, as (side of the net position, lowest and highest price around which they opened, in fen). The lock is at
+# the lower limit and S is 389.47: longs who bought high have the loss, shorts who sold high have the gain.
+KINDS = [
+    ("B", 416_00, 450_00),  # a loss about the loss edge, or far beyond it
+    ("B", 423_00, 455_00),
+    ("B", 423_00, 455_00),
+    ("B", 370_00, 400_00),  # long with a gain or a small loss
+    ("A", 418_00, 440_00),  # a gain in tier 1, or just below
+    ("A", 403_00, 422_00),  # in tier 2, or near its edges
+    ("A", 389_00, 406_00),  # in tier 3, or no gain
+    ("A", 389_00, 406_00),
+    ("A", 365_00, 389_00),  # short with a loss
+]
+
+
+def price(fen):
+    return f"{fen // 100}.{fen % 100:02d}"
+
+
+def opened(row, side, low, high):
+    """Opening trades oldest first, one in six of them on the other side, and the lots opened on the two sides."""
+    trades, lots = [], {"A": 0, "B": 0}
+    around = row.among(low, high)
+    for _ in range(row.among(3, 25)):
+        own = row.among(1, 6) > 1
+        tag = side if own else "AB"[side == "A"]
+        count = row.among(1, 60) if own else row.among(1, 9)
+        lots[tag] += count
+        trades.append((tag, f"{price(around + row.among(-6_00, 6_00))} {count}"))
+    return trades, lots
+
+
+def typical_customer(row, number):
+    """Some of what was opened is still held, and some of what is held long was offered at the limit price and not filled."""
+    side, low, high = KINDS[row.among(0, len(KINDS) - 1)]
+    trades, lots = opened(row, side, low, high)
+    k, h = (row.among(lots[tag] // 2, lots[tag]) for tag in "BA")
+    q = row.among(k // 3, k) if row.among(1, 5) > 1 else 0
+    code = f"{'ABCDEFGH'[number % 8]}{number * 10_007 % 99_991:05d}" + "XY12"[: row.among(0, 4)]
+    return customer(code, str(k), str(h), str(q), *trades)
+
+
+def typical():
+    """About 200 customers with several trades each: the size of a real book."""
+    row = Row(26)
+    return terms(s="389.47") + b"".join(typical_customer(row, 1 + i) for i in range(204)) + END
+
+
 NOTHING = "total 0\nleft 0\n"
 BOOKS = {
     "listing": (listing(), "total 9\nleft 1\nW3 3 1\nP2 P 3\nW1 1 3\nP1 P 6\nW2 2 5\n"),
@@ -67,6 +130,9 @@ BOOKS = {
     "customers-256": (terms() + crowd(256) + END, NOTHING + "".join(f"{1000 + i} N 0\n" for i in range(256))),
     "bytes-60000": (sized(60_000), NOTHING + "A N 0\n"),
 }
+
+with open("typical.book", "wb") as f:
+    f.write(typical())
 
 for name, (book, text) in BOOKS.items():
     with open(f"{name}.book", "wb") as f:

@@ -50,13 +50,10 @@ pub fn divide(quantity: u64, members: &mut [Member]) {
 fn give_whole_parts(quantity: u64, sum: u64, members: &mut [Member]) -> u64 {
     let mut given = 0;
     for member in members {
-        let product = u128::from(quantity) * u128::from(member.weight);
-        let whole = product / u128::from(sum);
-        let remainder = product - whole * u128::from(sum);
-        // Both fit: the quantity is at most the sum, so the whole part is at most the
-        // weight, and a remainder is below the sum.
-        member.lots = whole as u64;
-        member.remainder = remainder as u64;
+        // 256 customers of 1,000,000 lots make a sum of 2.56e8 and a product of 2.56e14.
+        let product = quantity * member.weight;
+        member.lots = product / sum;
+        member.remainder = product % sum;
         given += member.lots;
     }
     given

@@ -98,21 +98,24 @@ impl Scan<'_> {
         (lots.0 > 0).then_some(Trade { price, lots })
     }
 
-    /// The digits at the front, 1 to `most` of them (at most 9, so that they fit), with
-    /// no leading zero unless it is the single digit 0. A digit more than `most` stays
-    /// in the rest and fails there: no digit may follow a whole part.
+    /// The digits at the front, 1 to `most` of them (at most 9, so that they fit); after
+    /// a leading zero no more are taken. A digit too many stays in the rest and fails
+    /// there: no digit may follow a whole part.
     #[inline]
     fn whole(&mut self, most: usize) -> Option<u32> {
-        let mut value = 0;
-        let mut count = 0;
-        for digit in self.rest.iter().take(most).map_while(|&byte| digit(byte)) {
-            value = 10 * value + digit;
-            count += 1;
+        let (&first, mut rest) = self.rest.split_first()?;
+        let mut value = digit(first)?;
+        let mut room = if value == 0 { 0 } else { most - 1 };
+        while let Some((&next, after)) = rest.split_first() {
+            let worth = u32::from(next.wrapping_sub(b'0'));
+            if worth > 9 || room == 0 {
+                break;
+            }
+            value = 10 * value + worth;
+            room -= 1;
+            rest = after;
         }
-        if count == 0 || (count > 1 && self.rest[0] == b'0') {
-            return None;
-        }
-        self.rest = &self.rest[count..];
+        self.rest = rest;
         Some(value)
     }
 

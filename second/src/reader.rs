@@ -7,9 +7,7 @@
 //! its closing field, which is handed back once it has passed 2 and 3 and the
 //! customer has passed 9; only then is the closing field itself judged further.
 
-use std::collections::HashSet;
-
-use crate::code::code;
+use crate::code::{code, Codes};
 use crate::cursor::{Cursor, Field};
 use crate::figures::{self, Trade};
 use crate::gain::{total_gain, Net};
@@ -46,7 +44,7 @@ struct Holding {
 struct Reader<'a> {
     cursor: Cursor<'a>,
     terms: Terms,
-    codes: HashSet<&'a [u8]>,
+    codes: Codes<'a>,
     customers: Vec<Customer<'a>>,
     /// The trades of one customer on its net side; the room is used again for the next.
     trades: Vec<Trade>,
@@ -66,7 +64,7 @@ pub fn read(book: &[u8]) -> Result<Vec<Customer<'_>>, Refusal> {
     let mut reader = Reader {
         cursor,
         terms,
-        codes: HashSet::with_capacity(customers),
+        codes: Codes::with_capacity_and_hasher(customers, Default::default()),
         customers: Vec::with_capacity(customers),
         trades: Vec::new(),
     };

@@ -1,0 +1,145 @@
+//! The benchmark: the product beside the second program, on the same books and in one process.
+//!
+//! `bench` prints times, growth and stack and says which bars are met; its status is 1 where one is missed.
+//! `bench instructions` counts instructions by valgrind. `bench one PROGRAM BOOK COUNT` is what valgrind runs.
+
+mod books;
+mod instructions;
+mod programs;
+mod stack;
+mod timing;
+
+use std::env;
+use std::process::ExitCode;
+
+use books::Book;
+use programs::Program;
+use timing::Times;
+
+/// The bars: how often the second program's time a book may take.
+const BARS: [(&str, f64); 5] = [
+    ("typical", 1.0),
+    ("dense", 1.5),
+    ("one tier", 1.5),
+    ("one customer", 1.0),
+    ("one customer, half old", 1.0),
+];
+const STACK_BAR: usize = 48 * 1024;
+/// Elsewhere the product could only be emulated, and a time of that says nothing.
+const LINKED: bool = cfg!(target_arch = "x86_64");
+/// How much more a byte may cost at 60 KB than at 6 KB.
+const GROWTH_BAR: f64 = 1.2;
+
+fn main() -> ExitCode {
+    let words: Vec<String> = env::args().skip(1).collect();
+    let words: Vec<&str> = words.iter().map(String::as_str).collect();
+    let done = match words[..] {
+        _ if !LINKED => Err(
+            "the product is an x86-64 archive, and this program is not: nothing is measured".into(),
+        ),
+        [] => everything(),
+        ["instructions"] => instructions::table(),
+        ["one", program, book, count] => instructions::repeat(program, book, count),
+        _ => Err("no words, or: instructions, or: one PROGRAM BOOK COUNT".into()),
+    };
+    match done {
+        Ok(()) => ExitCode::SUCCESS,
+        Err(said) => {
+            eprintln!("bench: {said}");
+            ExitCode::FAILURE
+        }
+    }
+}
+
+/// Nothing is measured where the programs differ, or where the stack's measure cannot be trusted.
+fn everything() -> Result<(), String> {
+    let books = books::all();
+    let growing = books::growing();
+    if let Some(book) = books
+        .iter()
+        .chain(&growing)
+        .find(|book| !programs::agree(&book.bytes))
+    {
+        return Err(format!("the programs differ on the book {}", book.name));
+    }
+    if !stack::finds_what_is_known() {
+        return Err("the measure of the stack does not find what is known".into());
+    }
+    let met = [times(&books), growth(&growing), stacks(&books)];
+    if met.contains(&false) {
+        return Err("a bar is missed".into());
+    }
+    Ok(())
+}
+
+/// Prints times and ratios; answers whether the bars are met.
+fn times(books: &[Book]) -> bool {
+    println!("Nanoseconds a call: median (10th to 90th percentile)");
+    let mut met = true;
+    for book in books {
+        let [product, second] = timing::measure(&book.bytes);
+        let ratio = product.median / second.median;
+        let bar = BARS.iter().find(|bar| bar.0 == book.name).map(|bar| bar.1);
+        let (size, product, second) = (book.bytes.len(), shown(product), shown(second));
+        let said = verdict(bar.map(|bar| ratio <= bar));
+        println!(
+            "{:26} {size:>6} bytes  product {product}  second {second}  ratio {ratio:.2} {said}",
+            book.name
+        );
+        met &= bar.is_none_or(|bar| ratio <= bar);
+    }
+    met
+}
+
+fn shown(times: Times) -> String {
+    format!(
+        "{:>8.0} ({:.0} to {:.0})",
+        times.median, times.tenth, times.ninetieth
+    )
+}
+
+fn verdict(met: Option<bool>) -> &'static str {
+    match met {
+        Some(true) => "met",
+        Some(false) => "MISSED",
+        None => "",
+    }
+}
+
+/// Prints what a byte costs as the book grows; answers whether the product's growth is linear.
+fn growth(books: &[Book]) -> bool {
+    println!("Growth: nanoseconds a byte");
+    let mut costs = Vec::new();
+    for book in books {
+        let each = timing::measure(&book.bytes).map(|times| times.median / book.bytes.len() as f64);
+        println!(
+            "{:26} product {:.3}  second {:.3}",
+            book.name, each[0], each[1]
+        );
+        costs.push(each[0]);
+    }
+    let more = costs[costs.len() - 1] / costs[0];
+    let met = more <= GROWTH_BAR;
+    println!(
+        "from the first to the last: {more:.2} {}",
+        verdict(Some(met))
+    );
+    met
+}
+
+/// Prints the stack of each call; answers whether the product's is within its bar.
+fn stacks(books: &[Book]) -> bool {
+    println!("Bytes of stack that a call touches");
+    let mut met = true;
+    for book in books {
+        let [product, second] = Program::BOTH.map(|program| stack::used_by(program, &book.bytes));
+        let within = product <= STACK_BAR;
+        println!(
+            "{:26} product {product:>7}  second {second:>6} {}",
+            book.name,
+            verdict(Some(within))
+        );
+        met &= within;
+    }
+    met
+}

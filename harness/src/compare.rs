@@ -1,0 +1,281 @@
+//! One book through the program that is tried and through the second program.
+
+use second::call::judge;
+use second::report;
+
+use crate::guarded::Lent;
+use crate::product::Answer;
+use crate::program::Program;
+use crate::rearrange::everything_stays;
+use crate::statement::{self, Statement};
+
+/// A room that is enough for every report.
+pub const LARGE: usize = 8192;
+
+/// The kinds of checks, in the order in which a book meets them.
+#[derive(Clone, Copy, Debug, PartialEq, Eq)]
+pub enum Check {
+    Answer,
+    Buffer,
+    Guards,
+    Form,
+    BothSides,
+    WithinStake,
+    TiersInTurn,
+    ResidueLast,
+    Rearranged,
+}
+
+impl Check {
+    pub const ALL: [(Check, &'static str); 9] = [
+        (Check::Answer, "number, place and length"),
+        (Check::Buffer, "every byte of the buffer"),
+        (Check::Guards, "guard bytes"),
+        (Check::Form, "the report's form"),
+        (
+            Check::BothSides,
+            "both sides are offset for the same lots, the total",
+        ),
+        (Check::WithinStake, "none is offset for more than its own"),
+        (
+            Check::TiersInTurn,
+            "a tier gives when the earlier ones have given all",
+        ),
+        (Check::ResidueLast, "a residue after all tiers alone"),
+        (
+            Check::Rearranged,
+            "another order and fewer bystanders change nothing",
+        ),
+    ];
+
+    pub fn name(self) -> &'static str {
+        Check::ALL[self as usize].1
+    }
+}
+
+/// What was done, over any number of books.
+#[derive(Clone, Debug, Default, PartialEq, Eq)]
+pub struct Counts {
+    pub books: u64,
+    /// Books by the number answered in a large room; at 11 the calls that were answered so.
+    pub numbers: [u64; 12],
+    pub rooms: u64,
+    /// How often each check was made.
+    pub checks: [u64; Check::ALL.len()],
+}
+
+impl Counts {
+    pub fn add(&mut self, other: &Counts) {
+        self.books += other.books;
+        self.rooms += other.rooms;
+        add_each(&mut self.numbers, &other.numbers);
+        add_each(&mut self.checks, &other.checks);
+    }
+
+    pub fn times(&self, check: Check) -> u64 {
+        self.checks[check as usize]
+    }
+
+    /// Counts a check, and makes a difference of what it found.
+    fn hold<T>(
+        &mut self,
+        check: Check,
+        found: Result<T, String>,
+        call: Call,
+    ) -> Result<T, Difference> {
+        self.checks[check as usize] += 1;
+        found.map_err(|told| Difference { check, told, call })
+    }
+}
+
+fn add_each(sums: &mut [u64], more: &[u64]) {
+    for (sum, count) in sums.iter_mut().zip(more) {
+        *sum += count;
+    }
+}
+
+/// A difference between the two programs, or a fact that does not hold.
+#[derive(Clone, Debug, PartialEq, Eq)]
+pub struct Difference {
+    pub check: Check,
+    /// What differs, in words.
+    pub told: String,
+    pub call: Call,
+}
+
+/// One room of a book with both answers.
+#[derive(Clone, Copy, Debug, PartialEq, Eq)]
+pub struct Call {
+    pub room: usize,
+    /// The second program's.
+    pub want: Answer,
+    /// That of the program that is tried, unless it gave none.
+    pub got: Option<Answer>,
+}
+
+/// Compares one book in all its rooms, then holds its report to the facts and to demand 3. `variety` decides
+/// what the buffers are filled with and how the customers are rearranged.
+pub fn compare(
+    program: &mut dyn Program,
+    book: &[u8],
+    variety: u64,
+    counts: &mut Counts,
+) -> Result<(), Difference> {
+    let accepted = accepted(book);
+    let rooms = rooms(accepted.as_ref(), variety).into_iter();
+    let mut want: Vec<Lent> = (rooms.zip(variety..))
+        .map(|(room, variety)| Lent::new(room, variety))
+        .collect();
+    let mut got = want.clone();
+    let answers = program.call(book, &mut got);
+    counts.books += 1;
+    for (nth, (want, got)) in want.iter_mut().zip(&got).enumerate() {
+        let answer = answers.as_ref().map(|answers| answers[nth]);
+        same_call(book, want, got, answer, counts)?;
+    }
+    let Some(accepted) = accepted else {
+        return Ok(());
+    };
+    let statement = facts(&accepted, got[EXACT].room(), counts)?;
+    let stays = everything_stays(program, book, &statement, accepted.length, variety);
+    counts.hold(Check::Rearranged, stays, accepted.call())
+}
+
+/// One call: the second program is called with a buffer of the same bytes, and all must be the same after it.
+fn same_call(
+    book: &[u8],
+    want: &mut Lent,
+    got: &Lent,
+    answer: Result<Answer, &String>,
+    counts: &mut Counts,
+) -> Result<(), Difference> {
+    let right = second_answer(book, want.room_mut());
+    let call = Call {
+        room: want.size(),
+        want: right,
+        got: answer.ok(),
+    };
+    counts.rooms += 1;
+    counts.hold(Check::Answer, same_answer(right, answer), call)?;
+    counts.hold(Check::Buffer, same_bytes(want.room(), got.room()), call)?;
+    counts.hold(Check::Guards, same_guards(want, got), call)?;
+    count_number(counts, right, want.size());
+    Ok(())
+}
+
+/// Which of an accepted book's rooms is its report's size.
+const EXACT: usize = 2;
+
+/// Rooms that matter: for an accepted book none, one byte less than its report, as many, one more, and many; for
+/// a refused one none, some and many.
+fn rooms(accepted: Option<&Accepted>, variety: u64) -> Vec<usize> {
+    match accepted {
+        Some(&Accepted { length, .. }) => vec![0, length - 1, length, length + 1, LARGE],
+        None => vec![0, 1 + (variety % 300) as usize, LARGE],
+    }
+}
+
+/// What the second program has of an accepted book.
+struct Accepted {
+    /// Each customer's counted pending or offered lots.
+    stakes: Vec<u64>,
+    /// The report's.
+    length: usize,
+}
+
+impl Accepted {
+    /// The call in a room of the report's size, whose answer is known to be right.
+    fn call(&self) -> Call {
+        let answer = Answer {
+            number: 0,
+            place: 0,
+            length: self.length as u64,
+        };
+        Call {
+            room: self.length,
+            want: answer,
+            got: Some(answer),
+        }
+    }
+}
+
+fn accepted(book: &[u8]) -> Option<Accepted> {
+    let allotment = judge(book).ok()?;
+    let customers = allotment.customers.iter();
+    Some(Accepted {
+        stakes: customers.map(|customer| customer.stake.0.into()).collect(),
+        length: report::length(&allotment),
+    })
+}
+
+fn second_answer(book: &[u8], report: &mut [u8]) -> Answer {
+    let (number, place, length) = second::allot_into(book, report);
+    Answer {
+        number,
+        place,
+        length,
+    }
+}
+
+fn count_number(counts: &mut Counts, want: Answer, room: usize) {
+    if want.number == 11 || room == LARGE {
+        counts.numbers[want.number as usize] += 1;
+    }
+}
+
+fn same_answer(want: Answer, got: Result<Answer, &String>) -> Result<(), String> {
+    match got {
+        Ok(got) if got == want => Ok(()),
+        Ok(_) => Err("the answers differ".to_string()),
+        Err(told) => Err(told.clone()),
+    }
+}
+
+fn same_bytes(want: &[u8], got: &[u8]) -> Result<(), String> {
+    if want == got {
+        return Ok(());
+    }
+    let mut both = want.iter().zip(got).enumerate();
+    let first = both.find(|(_, (one, other))| one != other);
+    let told = first.map(|(place, (one, other))| {
+        format!("first differing byte at {place}: wanted {one:#04x}, got {other:#04x}")
+    });
+    Err(told.unwrap_or_else(|| format!("{} bytes, not {}", got.len(), want.len())))
+}
+
+fn same_guards(want: &Lent, got: &Lent) -> Result<(), String> {
+    let ((before, after), (got_before, got_after)) = (want.guards(), got.guards());
+    same_bytes(before, got_before).map_err(|told| format!("before the buffer, {told}"))?;
+    same_bytes(after, got_after).map_err(|told| format!("after the buffer, {told}"))
+}
+
+/// The form of an accepted book's report and the four facts. Answers what the report states.
+fn facts(accepted: &Accepted, report: &[u8], counts: &mut Counts) -> Result<Statement, Difference> {
+    let call = accepted.call();
+    let statement = counts.hold(Check::Form, statement::read(report), call)?;
+    for (check, found) in four_facts(&statement, &accepted.stakes) {
+        counts.hold(check, found, call)?;
+    }
+    Ok(statement)
+}
+
+fn four_facts(statement: &Statement, stakes: &[u64]) -> [(Check, Result<(), String>); 4] {
+    [
+        (
+            Check::BothSides,
+            statement::both_sides_equal_the_total(statement),
+        ),
+        (
+            Check::WithinStake,
+            statement::none_exceeds_its_stake(statement, stakes),
+        ),
+        (
+            Check::TiersInTurn,
+            statement::tiers_give_in_turn(statement, stakes),
+        ),
+        (
+            Check::ResidueLast,
+            statement::residue_only_after_all_tiers(statement, stakes),
+        ),
+    ]
+}

@@ -1,0 +1,15 @@
+//! In place of `product` on a machine that cannot link the product's x86-64 archive. There the product is asked by
+//! [`crate::through`].
+
+/// What a call answers, as in `product`.
+#[derive(Clone, Copy, Debug, PartialEq, Eq)]
+pub struct Answer {
+    pub number: u64,
+    pub place: u64,
+    pub length: u64,
+}
+
+/// There is nothing to call.
+pub fn allot(_book: &[u8], _report: &mut [u8]) -> Answer {
+    panic!("the product is an x86-64 archive and is not linked in on this machine")
+}

@@ -1,0 +1,22 @@
+//! The product beside the second program. A comparison goes through these steps, one file each:
+//!
+//! 1. [`guarded`] lends a buffer with guard bytes, [`program`] calls what is tried with it;
+//! 2. [`compare`] holds the answers and every byte against the second program;
+//! 3. [`statement`] takes a report apart and states four facts, [`rearrange`] tries demand 3;
+//! 4. [`run`] does so for many books; [`shrink`] and [`plain`] make a book with a difference small and [`text`] prints it.
+
+pub mod compare;
+pub mod draw;
+pub mod fields;
+pub mod guarded;
+pub mod plain;
+#[cfg_attr(not(target_arch = "x86_64"), path = "elsewhere.rs")]
+pub mod product;
+pub mod program;
+pub mod rearrange;
+pub mod run;
+pub mod shrink;
+pub mod statement;
+pub mod text;
+pub mod through;
+pub mod words;

@@ -1,0 +1,92 @@
+//! What several test files need: a right program, and books to be wrong about.
+#![allow(dead_code, reason = "each test file uses its own part")]
+
+use harness::fields::{fields, value};
+use harness::product::Answer;
+
+/// The second program in the form of a program that is tried.
+pub fn right(book: &[u8], report: &mut [u8]) -> Answer {
+    let (number, place, length) = second::allot_into(book, report);
+    Answer {
+        number,
+        place,
+        length,
+    }
+}
+
+/// What the second program writes of an accepted book.
+pub fn report(book: &[u8]) -> Option<Vec<u8>> {
+    let answer = second::allot(book, harness::compare::LARGE);
+    (answer.number == 0).then_some(answer.report)
+}
+
+/// Answers an accepted book with another report, by the rule of number 11; any other book as is right.
+pub fn answered_with(
+    book: &[u8],
+    report: &mut [u8],
+    other: impl FnOnce(Vec<u8>) -> Vec<u8>,
+) -> Answer {
+    let Some(own) = self::report(book) else {
+        return right(book, report);
+    };
+    let other = other(own);
+    let length = other.len();
+    match report.get_mut(..length) {
+        Some(room) => {
+            room.copy_from_slice(&other);
+            Answer {
+                number: 0,
+                place: 0,
+                length: length as u64,
+            }
+        }
+        None => Answer {
+            number: 11,
+            place: length as u64,
+            length: 0,
+        },
+    }
+}
+
+/// Every field with this tag gets the value that `change` makes of it and of its turn among them.
+pub fn with_values(
+    bytes: &[u8],
+    tag: u8,
+    mut change: impl FnMut(usize, &[u8]) -> Vec<u8>,
+) -> Vec<u8> {
+    let mut changed = Vec::new();
+    let mut nth = 0;
+    for field in fields(bytes) {
+        if bytes[field.start] != tag {
+            changed.extend_from_slice(&bytes[field]);
+            continue;
+        }
+        let other = change(nth, &bytes[value(&field)]);
+        nth += 1;
+        changed.push(tag);
+        changed.extend((other.len() as u16).to_be_bytes());
+        changed.extend(other);
+    }
+    changed
+}
+
+/// The values of all fields with this tag.
+pub fn values(bytes: &[u8], tag: u8) -> Vec<Vec<u8>> {
+    let of_tag = fields(bytes)
+        .into_iter()
+        .filter(|field| bytes[field.start] == tag);
+    of_tag.map(|field| bytes[value(&field)].to_vec()).collect()
+}
+
+/// A wrong program: equal remainders are settled by the order in the book. Codes that rise in that order make the
+/// right program do it.
+pub fn ties_by_row_order(book: &[u8], report: &mut [u8]) -> Answer {
+    let codes = values(book, b'C');
+    let renamed = with_values(book, b'C', |nth, _| format!("{nth:03}").into_bytes());
+    // Longer codes can make a book too long.
+    let (Some(_), Some(other)) = (self::report(book), self::report(&renamed)) else {
+        return right(book, report);
+    };
+    let named = with_values(&other, b'C', |nth, _| codes[nth].clone());
+    answered_with(book, report, |_| named)
+}

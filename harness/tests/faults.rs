@@ -1,0 +1,193 @@
+//! Wrong programs: each is found among generated books, by the check that is there for it, and its book is shrunk.
+
+mod common;
+
+use std::path::Path;
+
+use common::{answered_with, right, ties_by_row_order, values, with_values};
+use harness::compare::{Check, Counts, Difference};
+use harness::fields::{fields, groups, value};
+use harness::product::Answer;
+use harness::program::Program;
+use harness::run::{run, shrunk, Outcome, Plan};
+use harness::through::Through;
+
+type Call = fn(&[u8], &mut [u8]) -> Answer;
+
+const PLAN: Plan = Plan {
+    count: 20_000,
+    seed: 3,
+    from: 0,
+    threads: 2,
+};
+
+fn compared(plan: Plan, call: Call) -> Outcome {
+    run(
+        plan,
+        &move || Box::new(call) as Box<dyn Program>,
+        &mut |_| (),
+    )
+}
+
+/// Finds a wrong program and answers the small book with its difference.
+fn found(call: Call, check: Check, most_bytes: usize) -> (Vec<u8>, Difference) {
+    let first = compared(PLAN, call).first.expect("a difference");
+    assert_eq!(first.difference.check, check, "{}", first.difference.told);
+    let (small, difference) = shrunk(&first, &mut { call });
+    let text = harness::text::difference(&difference, &small);
+    println!(
+        "index {}, of {} bytes\n{text}",
+        first.index,
+        first.made.bytes.len()
+    );
+    assert_eq!(difference.check, check);
+    assert!(small.len() <= most_bytes, "{} bytes left", small.len());
+    (small, difference)
+}
+
+#[test]
+fn the_right_program_has_no_difference_and_meets_every_check() {
+    let outcome = compared(PLAN, right);
+    assert!(outcome.first.is_none());
+    let Counts {
+        books,
+        numbers,
+        checks,
+        ..
+    } = outcome.counts;
+    assert_eq!(books, PLAN.count);
+    assert!(numbers.iter().all(|&count| count > 0), "{numbers:?}");
+    assert!(checks.iter().all(|&count| count > 5_000), "{checks:?}");
+}
+
+#[test]
+fn ties_by_row_order_are_found() {
+    let (small, difference) = found(ties_by_row_order, Check::Buffer, 150);
+    // Two that tie and one to be offset against.
+    assert_eq!(groups(&small).len(), 3);
+    assert_eq!(difference.call.got.map(|got| got.number), Some(0));
+}
+
+#[test]
+fn a_byte_written_after_the_report_is_found() {
+    fn wrong(book: &[u8], report: &mut [u8]) -> Answer {
+        let answer = right(book, report);
+        if let (0, Some(after)) = (answer.number, report.get_mut(answer.length as usize)) {
+            *after = b'Z';
+        }
+        answer
+    }
+    let (small, difference) = found(wrong, Check::Buffer, 40);
+    assert!(groups(&small).is_empty(), "terms and Z show it");
+    assert!(
+        difference.told.contains("first differing byte at 8:"),
+        "{}",
+        difference.told
+    );
+}
+
+#[test]
+fn a_buffer_altered_on_refusal_is_found() {
+    fn wrong(book: &[u8], report: &mut [u8]) -> Answer {
+        let answer = right(book, report);
+        if let (1.., Some(first)) = (answer.number, report.first_mut()) {
+            *first = b'T';
+        }
+        answer
+    }
+    let (small, _) = found(wrong, Check::Buffer, 0);
+    assert!(small.is_empty(), "the empty book is refused");
+}
+
+#[test]
+fn a_comma_read_as_a_point_is_found() {
+    fn wrong(book: &[u8], report: &mut [u8]) -> Answer {
+        let mut read = book.to_vec();
+        let figures = fields(book)
+            .into_iter()
+            .filter(|field| b"SLUVKHQBA".contains(&book[field.start]));
+        for at in figures
+            .flat_map(|field| value(&field))
+            .filter(|&at| book[at] == b',')
+        {
+            read[at] = b'.';
+        }
+        right(&read, report)
+    }
+    let (_, difference) = found(wrong, Check::Answer, 60);
+    assert_eq!(difference.call.want.number, 4);
+}
+
+#[test]
+fn an_invented_residue_is_found() {
+    fn wrong(book: &[u8], report: &mut [u8]) -> Answer {
+        answered_with(book, report, |own| {
+            with_values(&own, b'R', |_, value| match value {
+                b"0" => b"0".to_vec(),
+                _ => b"1".to_vec(),
+            })
+        })
+    }
+    let first = compared(PLAN, wrong).first.expect("a difference");
+    let (small, _) = shrunk(&first, &mut { wrong });
+    assert_eq!(groups(&small).len(), 1, "one pending customer shows it");
+    assert!(small.len() <= 80, "{} bytes left", small.len());
+}
+
+#[test]
+fn bytes_written_around_the_buffer_are_found() {
+    fn after(book: &[u8], report: &mut [u8]) -> Answer {
+        let end = report.as_mut_ptr_range().end;
+        // SAFETY: none in Rust's sense. It is what a wrong C program does; a guard byte stands there.
+        unsafe { *end = b'Z' };
+        right(book, report)
+    }
+    fn before(book: &[u8], report: &mut [u8]) -> Answer {
+        let start = report.as_mut_ptr();
+        // SAFETY: as above.
+        unsafe { *start.sub(1) = b'Z' };
+        right(book, report)
+    }
+    let (_, difference) = found(after, Check::Guards, 0);
+    assert!(difference.told.starts_with("after"), "{}", difference.told);
+    let (_, difference) = found(before, Check::Guards, 0);
+    assert!(difference.told.starts_with("before"), "{}", difference.told);
+}
+
+#[test]
+fn a_place_that_is_one_off_is_found() {
+    fn wrong(book: &[u8], report: &mut [u8]) -> Answer {
+        let mut answer = right(book, report);
+        answer.place += u64::from(answer.number == 9);
+        answer
+    }
+    let (small, difference) = found(wrong, Check::Answer, 80);
+    assert_eq!(difference.call.want.number, 9);
+    assert_eq!(values(&small, b'K').len(), 1, "one customer shows it");
+}
+
+/// The difference of the lowest index comes first, whatever the threads do.
+#[test]
+fn the_first_difference_is_the_same_with_any_number_of_threads() {
+    let index = |threads| {
+        let plan = Plan { threads, ..PLAN };
+        compared(plan, ties_by_row_order)
+            .first
+            .expect("a difference")
+            .index
+    };
+    let alone = index(1);
+    assert!([2, 3, 8].iter().all(|&threads| index(threads) == alone));
+}
+
+#[test]
+fn a_program_that_dies_is_a_difference_and_no_end_of_the_run() {
+    let start = || Box::new(Through::new(Path::new("false"))) as Box<dyn Program>;
+    let first = run(Plan { count: 5, ..PLAN }, &start, &mut |_| ())
+        .first
+        .expect("a difference");
+    assert_eq!((first.index, first.difference.check), (0, Check::Answer));
+    assert_eq!(first.difference.call.got, None);
+    let (small, _) = shrunk(&first, &mut *start());
+    assert!(small.is_empty());
+}
