@@ -1,5 +1,7 @@
 # make           build the program and list the sample book
 # make check     all proofs and tests
+# make compare   COUNT generated books from SEED through the product and through the second program
+# make bench     the product's speed and stack beside the second program's, on x86-64
 # make install   program, header, archive, pkg-config file and manual page below PREFIX; make uninstall takes them away again
 #
 # Building needs the Rattle kit (rt). A packager sets DESTDIR. The product is for x86-64; on another machine the kit's emulator runs it here.
@@ -21,13 +23,25 @@ libdir = $(PREFIX)/lib
 pkgconfigdir = $(libdir)/pkgconfig
 man1dir = $(PREFIX)/share/man/man1
 
-.PHONY: sample check install uninstall
+COUNT = 1000000
+SEED = 1
+cargo = CARGO_TARGET_DIR=target/cargo cargo run --release --offline --quiet --manifest-path harness/Cargo.toml
+
+.PHONY: sample check compare bench install uninstall
 
 sample: $(program)
 	$(RUN) $(program) < examples/listing.book
 
 check:
 	.ci/run
+
+# A machine that cannot link the archive asks the product under the emulator.
+compare: $(archive)
+	if [ "$$(uname -m)" = x86_64 ]; then $(cargo) --bin compare -- $(COUNT) $(SEED) --folder target; \
+	else harness/emulated/make && $(cargo) --bin compare -- $(COUNT) $(SEED) --folder target --through target/emulated/run; fi
+
+bench: $(archive)
+	$(cargo) --bin bench
 
 $(program): $(sources)
 	$(RT) check allot

@@ -19,6 +19,7 @@ use Rattle.laws.specs.Keys.{keyOf}
 use Rattle.laws.specs.Padded.{padded, padded-getD}
 use Rattle.laws.specs.Blocks.{blocks, Fitting, blocks-at}
 use Rattle.laws.specs.Recode.{recode, recodeAll}
+use Rattle.laws.specs.Picks.{getD-in}
 use Rattle.laws.specs.Sane.{Sane, AllSane, Customers}
 use Rattle.cascade.specs.declared.Cascade.{Cascade}
 use Rattle.cascade.specs.State.{rowAt, linesOf, afterAll}
@@ -29,7 +30,7 @@ use Rattle.roll.proofs.Named.{code-length}
 use Rattle.writing.specs.Pieces.{shown, reportHead, listedHead, reported-shown, printed-shown, report-head, listed-head}
 use Rattle.report.specs.Lines.{codeAt, lineAt, reportBytes, listingBytes, Ready}
 use Rattle.allotment.specs.Worked.{stateOf, linesAfter}
-use Rattle.allotment.proofs.Start.{getD-in, nobody, at, sane-at, in-order, lines-are}
+use Rattle.allotment.proofs.Start.{nobody, at, sane-at, in-order, lines-are}
 
 -- lines that look the same one by one are the same bytes
 joined-map : (f : Line → List ℕ) (l : List Line) → joined f l ≡ joined (λ v. v) (map f l)

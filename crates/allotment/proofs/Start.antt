@@ -21,17 +21,12 @@ use Rattle.laws.specs.Indices.{map-below}
 use Rattle.laws.specs.Keys.{keyOf, key-smaller}
 use Rattle.laws.specs.Padded.{padded, padded-getD}
 use Rattle.laws.specs.Recode.{recode, InOrder}
+use Rattle.laws.specs.Picks.{getD-in}
 use Rattle.laws.specs.Sane.{Sane, AllSane, Customers}
 use Rattle.cascade.specs.declared.Row.{Row}
 use Rattle.cascade.specs.State.{rowAt, lineAt, linesOf, Small, Steady}
 use Rattle.roll.specs.Roll.{rowOf, keysOf, rowsOf}
 use Rattle.allotment.specs.Worked.{stateOf}
-
--- an element of a mapped list, whatever stands for those past its end
-pub getD-in : {A B : Type 0} (f : A → B) (l : List A) (i : ℕ) (d : A) (e : B) → i < length l → getD (map f l) i e ≡ f (getD l i d)
-getD-in f [] i d e h = absurd (omega arith)
-getD-in f (a ∷ l) zero d e h = refl
-getD-in f (a ∷ l) (suc i) d e h = getD-in f l i d e (omega arith)
 
 -- nobody at all, for places past the last customer
 abbrev pub nobody : Customer

@@ -19,13 +19,13 @@ use Rattle.laws.specs.Sane.{codeIn}
 use Rattle.laws.specs.DistinctPicks.{distinct-picked}
 use Rattle.laws.specs.Accepted.{Built, accepted-built, built-accepted}
 
-length-joined : (gs : List (List ℕ)) → length (joined (λ g. g) gs) ≡ sumOf length gs
-length-joined [] = refl
-length-joined (g ∷ gs) = omega (arith, length-append g (joined (λ k. k) gs), length-joined gs)
+pub length-joined : {A : Type 0} (f : A → List ℕ) (l : List A) → length (joined f l) ≡ sumOf (λ a. length (f a)) l
+length-joined f [] = refl
+length-joined f (a ∷ rest) = omega (arith, length-append (f a) (joined f rest), length-joined f rest)
 
 length-together : (p : Parts) → length (together p) ≡ length (p .terms) + sumOf length (p .groups) + length (p .end)
 length-together p =
-    omega (arith, length-append (p .terms ++ joined (λ g. g) (p .groups)) (p .end), length-append (p .terms) (joined (λ g. g) (p .groups)), length-joined (p .groups))
+    omega (arith, length-append (p .terms ++ joined (λ g. g) (p .groups)) (p .end), length-append (p .terms) (joined (λ g. g) (p .groups)), length-joined (λ g. g) (p .groups))
 
 module _ (p : Parts) (is : List ℕ) where
   abbrev somePicked : Parts

@@ -15,13 +15,13 @@ use Rattle.rules.specs.Cascade.{Outcome, lineOf, cascade, outcome}
 use Rattle.rules.specs.Report.{digits, field, joined, reported, report}
 use Rattle.rules.specs.Answer.{answer}
 use Rattle.rules.specs.Rearranged.{partsOf, together, picked, rearranged, Below, nobody, Chosen}
-use Rattle.laws.specs.Picks.{sum-chosen-le, getD-in}
+use Rattle.laws.specs.Picks.{sum-chosen-le}
 use Rattle.laws.specs.Within.{Within, as-many}
 use Rattle.laws.specs.Lines.{book-within}
 use Rattle.laws.specs.Chosen.{pickedOf, chosen-after, outcome-chosen}
 use Rattle.laws.specs.Framed.{parts-together}
 use Rattle.laws.specs.Accepted.{groups-of-customers, group-begins}
-use Rattle.laws.specs.Rearrange.{rearranged-accepted}
+use Rattle.laws.specs.Rearrange.{length-joined, rearranged-accepted}
 use Rattle.allotment.specs.declared.Answer.{Answer}
 use Rattle.allotment.specs.Answered.{Answered}
 use Rattle.promises.specs.Outcomes.{outcomeOf, Fits, accepted-fits, fits-accepted, fits-report}
@@ -45,10 +45,6 @@ pub record Parted (s : List ℕ) : Type 0 where
 
 none : Customer
 none = record { code = []; position = record { long = lots 0; short = lots 0; unfilled = lots 0 }; trades = [] }
-
-length-joined : {A : Type 0} (f : A → List ℕ) (l : List A) → length (joined f l) ≡ sumOf (λ a. length (f a)) l
-length-joined f [] = refl
-length-joined f (a ∷ rest) = omega (arith, length-append (f a) (joined f rest), length-joined f rest)
 
 -- with fewer customers a report is no longer
 report-shorter : (o : Outcome) (is : List ℕ) → Chosen (o .lines) is → length (report (pickedOf o is)) ≤ length (report o)
