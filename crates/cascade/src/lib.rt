@@ -9,7 +9,7 @@ ghost use Rattle.rules.specs.Cascade.{tierOf, pendingOf};
 ghost use Rattle.laws.specs.Filled.{filled};
 ghost use Rattle.cascade.specs.State.{linesOf, afterTier, afterAll, Steady, Weighed, Moves, movedAt};
 
-// A customer of the roll, without its code.
+// A customer of the roll, without its code. Its lots, also those offset in all tiers, stay below 2^32.
 pub struct Row {
     pub standing: Standing,
     pub offered: u32,
@@ -129,7 +129,8 @@ impl Cascade {
         self
     }
 
-    // The three tiers; k is the last that was worked. With one call of `tier` its code, and its room, is the caller's own.
+    // The three tiers; k is the last that was worked. There is one call of `tier`, so that it is compiled into its caller and the
+    // states share their room.
     pub fn run(self) -> Cascade
         requires { ⌜ Steady 0 self ⌝ }
         ensures { λ r. ⌜ r ≡ afterAll self ⌝ }

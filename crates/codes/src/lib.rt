@@ -3,7 +3,7 @@ ghost use mathlib.Core.Path.{_≡_};
 ghost use Prim.Native.Nat.{_-_, _^_, _≤_, min, max};
 ghost use lib.ListN.{length, take};
 ghost use Rattle.laws.specs.Keys.{digitOf};
-ghost use Rattle.codes.specs.Codes.{codeOf, givenIn};
+ghost use Rattle.codes.specs.Codes.{codeOf, givenIn, markOf, Marked};
 
 pub enum Code {
     Key(u64),
@@ -103,4 +103,23 @@ pub fn given(keys: &[u64; 256], count: usize, key: u64) -> bool
         passed += 1;
     }
     found
+}
+
+// Where a key's mark stands. 1,021 is prime, so that codes with the same bytes behind seldom share a place.
+pub fn mark_of(key: u64) -> usize
+    ensures { λ r. ⌜ r ≡ markOf key ⌝ }
+{
+    (key % 1_021) as usize
+}
+
+// Whether this key is among the first `count`, which all have their marks: the keys are looked through only where its place is marked.
+pub fn known(keys: &[u64; 256], marks: &[u8; 1024], count: usize, key: u64) -> bool
+    requires { ⌜ (count ≤ 256) × (count ≤ length (now keys)) ⌝ ∗ ⌜ Marked (now keys) (now marks) count ⌝ }
+    ensures { λ r. ⌜ r ≡ givenIn (take count (now (keys .entry))) key ⌝ }
+{
+    let place = mark_of(key);
+    if marks[place] == 0 {
+        return false;
+    }
+    given(keys, count, key)
 }

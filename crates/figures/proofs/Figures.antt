@@ -2,14 +2,15 @@
 -- Assumes nothing.
 use Prim.Native.Nat.{ℕ}
 use mathlib.Core.Path.{_≡_, refl}
-use mathlib.Core.Bool.{Bool, true, false, cond, _&&_, and-eq-true-iff}
+use mathlib.Core.Bool.{Bool, true, false, cond, _&&_}
 use mathlib.Core.List.{List}
+use lib.Dec.{lit<}
 use Rattle.rules.specs.declared.Form.{Form}
 use Rattle.rules.specs.declared.Figure.{Figure}
 use Rattle.rules.specs.declared.Figure.the-variants.{Value, Comma, Malformed}
 use Rattle.rules.specs.Figures.{figureOf, has, formed, inRange, number}
-use Rattle.figures.proofs.Numbers.{counted}
-use Rattle.figures.proofs.Commas.{formed-no-comma}
+use Rattle.figures.proofs.Commas.{formed-has-none}
+use Rattle.figures.proofs.Formed.{formed-parts, number-formed}
 use Rattle.figures.specs.declared.number.Digits.{Digits}
 use Rattle.figures.specs.declared.number.Digits.the-variants.{Number, Other}
 use Rattle.figures.specs.Numbers.{numberOf}
@@ -28,9 +29,8 @@ sifted comma false fits n h = refl
 
 pub by-number : (form : Form) (v : List ℕ) → figureOf form v ≡ figureBy (has "," v) (numberOf form v)
 unfolding figureOf
-by-number form v = sifted (has "," v) (formed form v) (inRange form (number form v)) (number form v) (formed-no-comma form v)
+by-number form v = sifted (has "," v) (formed form v) (inRange form (number form v)) (number form v)
+    (λ h. formed-has-none "," form v (lit< tt) (formed-parts form v h))
 
 pub number-no-comma : (form : Form) (v : List ℕ) (n : ℕ) → numberOf form v ≡ Number n → has "," v ≡ false
-number-no-comma form v n e =
-    let good = counted (formed form v && inRange form (number form v)) (number form v) n e .0 in
-    formed-no-comma form v (and-eq-true-iff (formed form v) (inRange form (number form v)) .0 good .0)
+number-no-comma form v n e = formed-has-none "," form v (lit< tt) (number-formed form v n e)

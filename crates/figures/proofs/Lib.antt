@@ -1,7 +1,10 @@
 pub mod Lists
-pub mod Sizes
+pub mod Runs
 pub mod Numbers
+pub mod Sizes
+pub mod Formed
 pub mod Commas
 pub mod Figures
 pub mod Blanks
+pub mod Fronts
 pub mod Openings

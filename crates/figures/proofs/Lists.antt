@@ -1,8 +1,8 @@
--- A list from i on, as a loop that counts by one and a part of a slice read it; and a test's two cases.
+-- A list from i on, as a loop that counts by one and a part of a slice read it; and a test's two cases, and its negation's.
 -- Assumes nothing.
 use Prim.Native.Nat.{ℕ, _+_, _-_, _<_}
-use mathlib.Core.Path.{_≡_, refl}
-use mathlib.Core.Bool.{Bool, true, false}
+use mathlib.Core.Path.{_≡_, refl, sym}
+use mathlib.Core.Bool.{Bool, true, false, not, false≢true}
 use mathlib.Core.List.{List, _∷_}
 use native.Mathlib.Numerals.{add-one}
 use native.Mathlib.Omega.{arith}
@@ -19,3 +19,11 @@ to-end v i = take-all (length v - i) (drop i v) (simp length-drop (omega arith))
 pub by-test : {C : Type 0} (b : Bool) → (b ≡ true → C) → (b ≡ false → C) → C
 by-test true f g = f refl
 by-test false f g = g refl
+
+pub negated : (b : Bool) → not b ≡ true → b ≡ false
+negated false h = refl
+negated true h = absurd (false≢true h)
+
+pub affirmed : (b : Bool) → not b ≡ false → b ≡ true
+affirmed true h = refl
+affirmed false h = absurd (false≢true (sym h))

@@ -2,28 +2,24 @@
 -- Assumes nothing.
 use Prim.Native.Nat.{ℕ, zero, suc, _+_, _<_, _≤_}
 use mathlib.Core.Path.{_≡_, refl, sym, ap, _∙_}
-use mathlib.Core.Bool.{Bool, true, false, cond, _&&_, and-true}
+use mathlib.Core.Bool.{Bool, true, false, cond, not, _&&_, _||_, and-true, and-eq-true-iff}
 use mathlib.Core.List.{List, [], _∷_, _++_}
 use native.Mathlib.Omega.{arith}
-use borrow.Author.Tests.{lt-leb, eq-eqb}
-use lib.Dec.{leb}
-use lib.ListN.{length, take, drop, length-drop}
-use lib.Seq.{length-take-le, drop-drop}
+use borrow.Author.Tests.{leb-true, lt-leb, eq-eqb}
+use lib.Dec.{leb, eqb}
+use lib.ListN.{length, getD, take, drop, length-drop, length-append}
+use lib.Seq.{length-take-le, drop-drop, take-append-seam, drop-append-seam}
 use Rattle.rules.specs.declared.Form.{Form}
 use Rattle.rules.specs.Text.{is}
 use Rattle.rules.specs.Figures.{allDigits, numberAfter, plain, pointed, tail, before, formed, number, inRange}
 use Rattle.figures.specs.declared.number.Digits.{Digits}
 use Rattle.figures.specs.declared.number.Digits.the-variants.{Number, Other}
-use Rattle.figures.specs.Numbers.{wholeOf, tailAfter, numberOf}
+use Rattle.figures.specs.Numbers.{digitsAfter, mayBeWhole, wholeOf, tailAfter, within, numberOf}
 
 -- the part before the point, with what follows it
 abbrev pub withTail : List ℕ → Digits → Digits
 withTail rest Other = Other
 withTail rest (Number n) = tailAfter n rest
-
-abbrev pub within : Form → Digits → Digits
-within form Other = Other
-within form (Number n) = cond (inRange form n) (Number n) Other
 
 -- the number of v, where the part before the point is n bytes long
 abbrev pub parts : Form → List ℕ → ℕ → Digits
@@ -63,6 +59,36 @@ by-parts form v h =
     ∙ tailed (form .decimals) whole (numberAfter 0 ds) rest (simp length-drop (omega arith))
     ∙ ap (λ (k : ℕ). withTail rest (cond (leb 1 k && leb k (form .whole) && plain ds) (Number (numberAfter 0 ds)) Other))
     (sym (length-take-le n v (omega arith))))
+
+-- and where the two parts are given
+pub by-front :
+    (form : Form) (a b : List ℕ) → length b ≡ tail (form .decimals) →
+    numberOf form (a ++ b) ≡ within form (withTail b (wholeOf (form .whole) a))
+by-front form a b e =
+    let s = length-append a b in
+    let n : before form (a ++ b) ≡ length a = omega arith in
+    by-parts form (a ++ b) (omega arith)
+    ∙ ap (parts form (a ++ b)) n
+    ∙ ap (λ (l : List ℕ). within form (withTail l (wholeOf (form .whole) (take (length a) (a ++ b))))) (drop-append-seam a b)
+    ∙ ap (λ (l : List ℕ). within form (withTail b (wholeOf (form .whole) l))) (take-append-seam a b)
+
+sorted : (a d z : Bool) (x : Digits) → cond (a && (d && z)) x Other ≡ cond (a && z) (cond d x Other) Other
+sorted true true true x = refl
+sorted true true false x = refl
+sorted true false true x = refl
+sorted true false false x = refl
+sorted false d z x = refl
+
+-- the digits are read after the other tests
+pub whole-by : (most : ℕ) (ds : List ℕ) → wholeOf most ds ≡ cond (mayBeWhole most ds) (digitsAfter 0 ds) Other
+whole-by most ds = sorted (leb 1 (length ds) && leb (length ds) most) (allDigits ds) (not (is "0" (getD ds 0 0)) || eqb (length ds) 1) _
+
+pub whole-most : (most : ℕ) (ds : List ℕ) → mayBeWhole most ds ≡ true → length ds ≤ most
+whole-most most ds h =
+    let sizes = leb 1 (length ds) && leb (length ds) most in
+    let p = and-eq-true-iff sizes (not (is "0" (getD ds 0 0)) || eqb (length ds) 1) .0 h in
+    let q = and-eq-true-iff (leb 1 (length ds)) (leb (length ds) most) .0 (p .0) in
+    omega (arith, leb-true)
 
 -- too short for the point and the decimals
 pub no-room : (form : Form) (v : List ℕ) → length v < tail (form .decimals) → numberOf form v ≡ Other

@@ -1,13 +1,14 @@
 -- A trade by its two numbers, with the comma asked for only where one is missing: two numbers and a blank have none.
 -- Assumes nothing.
-use Prim.Native.Nat.{ℕ, _≤_}
+use Prim.Native.Nat.{ℕ, _<_, _≤_}
+use Prim.Native.Char.{code}
 use mathlib.Core.Path.{_≡_, refl, ap, _∙_}
 use mathlib.Core.Bool.{Bool, true, false, cond}
-use mathlib.Core.List.{List}
+use mathlib.Core.List.{List, _∷_}
 use native.Mathlib.Omega.{arith}
 use borrow.Author.Tests.{ltb-true, ltb-false}
 use lib.Dec.{ltb}
-use lib.ListN.{length}
+use lib.ListN.{length, length-append}
 use Rattle.figures.proofs.Lists.{by-test}
 use Rattle.rules.specs.declared.Opening.{Opening}
 use Rattle.rules.specs.declared.Opening.the-variants.{Made}
@@ -20,6 +21,10 @@ use Rattle.figures.specs.declared.number.Digits.{Digits}
 use Rattle.figures.specs.declared.number.Digits.the-variants.{Number, Other}
 use Rattle.figures.specs.Numbers.{numberOf, noOpening}
 use Rattle.figures.proofs.Figures.{figureBy, by-number, number-no-comma}
+use Rattle.figures.specs.declared.front.Front.the-variants.{Other as NoFront}
+use Rattle.figures.specs.Fronts.{frontOf}
+use Rattle.figures.proofs.Formed.{number-most}
+use Rattle.figures.proofs.Fronts.{front-missing}
 use Rattle.figures.proofs.Blanks.{blank-inside, nothing-after}
 
 -- without a blank there are no lots
@@ -41,16 +46,20 @@ joined bought comma c false (Number p) Other h = refl
 joined bought comma true d Other n h = refl
 joined bought comma false d Other n h = refl
 
--- two numbers on the two sides of a blank
+-- two numbers have a blank between them
+between :
+    (v : List ℕ) (j : ℕ) → numberOf tradedForm (afterBlank v) ≡ Number j → length (upToBlank v) < length v
+between v j n =
+    by-test (ltb (length (upToBlank v)) (length v))
+    (λ t. ltb-true _ _ t)
+    (λ t. let e = no-number v (ltb-false _ _ t) in let z : _≡_ {A = ℕ} 0 1 = cc in absurd (omega arith))
+
 both-plain :
     (v : List ℕ) (i j : ℕ) →
     numberOf priceForm (upToBlank v) ≡ Number i → numberOf tradedForm (afterBlank v) ≡ Number j → has "," v ≡ false
 both-plain v i j p n =
-    by-test (ltb (length (upToBlank v)) (length v))
-    (λ t.
-    ap (has ",") (blank-inside v (ltb-true _ _ t))
-    ∙ simp (has-append, number-no-comma priceForm (upToBlank v) i p, number-no-comma tradedForm (afterBlank v) j n))
-    (λ t. let e = no-number v (ltb-false _ _ t) in let z : _≡_ {A = ℕ} 0 1 = cc in absurd (omega arith))
+    ap (has ",") (blank-inside v (between v j n))
+    ∙ simp (has-append, number-no-comma priceForm (upToBlank v) i p, number-no-comma tradedForm (afterBlank v) j n)
 
 pub by-numbers :
     (bought : Bool) (v : List ℕ) →
@@ -60,11 +69,24 @@ by-numbers bought v =
     simp (by-number priceForm (upToBlank v), by-number tradedForm (afterBlank v))
     (joined bought (has "," v) (has "," (upToBlank v)) (has "," (afterBlank v)) _ _ (both-plain v))
 
-no-lots : (bought comma : Bool) (p : Digits) → openingBy bought comma p Other ≡ cond comma CommaIn NoTrade
-no-lots bought comma (Number p) = refl
-no-lots bought comma Other = refl
+missing :
+    (bought comma : Bool) (p n : Digits) → ((i j : ℕ) → p ≡ Number i → n ≡ Number j → ⊥) → openingBy bought comma p n ≡ cond comma CommaIn NoTrade
+missing bought comma (Number p) (Number n) h = absurd (h p n refl refl)
+missing bought comma (Number p) Other h = refl
+missing bought comma Other n h = refl
 
-pub no-blank : (bought : Bool) (v : List ℕ) → length v ≤ length (upToBlank v) → openingOf bought v ≡ noOpening v
-no-blank bought v h =
-    let p = numberOf priceForm (upToBlank v) in
-    by-numbers bought v ∙ ap (openingBy bought (has "," v) p) (no-number v h) ∙ no-lots bought (has "," v) p
+no-trade :
+    (bought : Bool) (v : List ℕ) →
+    ((i j : ℕ) → numberOf priceForm (upToBlank v) ≡ Number i → numberOf tradedForm (afterBlank v) ≡ Number j → ⊥) →
+    openingOf bought v ≡ noOpening v
+no-trade bought v h = by-numbers bought v ∙ missing bought (has "," v) _ _ h
+
+-- 8 bytes of a price, the blank, 7 bytes of lots
+pub too-long : (bought : Bool) (v : List ℕ) → 16 < length v → openingOf bought v ≡ noOpening v
+too-long bought v l =
+    no-trade bought v (λ i j p n.
+    let s = ap length (blank-inside v (between v j n)) ∙ length-append (upToBlank v) (code " " ∷ afterBlank v) in
+    omega (arith, s, number-most priceForm (upToBlank v) i p, number-most tradedForm (afterBlank v) j n))
+
+pub no-price : (bought : Bool) (v : List ℕ) → frontOf priceForm v ≡ NoFront → openingOf bought v ≡ noOpening v
+no-price bought v h = no-trade bought v (λ i j p n. front-missing priceForm v i h (between v j n) p)

@@ -1,13 +1,15 @@
 // Reads the figures of a book, and the value of a trade, which is two of them. A figure that is well formed has no comma,
 // so a comma is looked for only in a value that could not be read.
 ghost use mathlib.Core.Path.{_≡_};
-ghost use Prim.Native.Nat.{_+_, _≤_, _<_};
-ghost use lib.ListN.{length};
-ghost use Rattle.rules.specs.Figures.{figureOf, openingOf, priceForm, rateForm, heldForm, has, upToBlank};
+ghost use Prim.Native.Nat.{_+_, _≤_};
+ghost use Rattle.rules.specs.Figures.{figureOf, openingOf, priceForm, rateForm, heldForm, has};
 ghost use Rattle.figures.specs.Numbers.{noOpening};
 
+mod front;
 mod number;
 
+use front::Front;
+use front::read_front;
 use number::Digits;
 use number::read_number;
 use rules::Fen;
@@ -47,6 +49,9 @@ const TRADED: Form = Form {
     most: 1_000_000,
 };
 
+// 99999.99 1000000
+const LONGEST: usize = 16;
+
 fn has_comma(v: &[u8]) -> bool
     ensures { λ r. ⌜ r ≡ has "," (now (v .entry)) ⌝ }
 {
@@ -73,20 +78,6 @@ pub fn read_figure(v: &[u8], form: Form) -> Figure
     Figure::Value(n)
 }
 
-// The place of the first blank, or the length.
-fn find_blank(v: &[u8]) -> usize
-    ensures { λ r. ⌜ r ≡ length (upToBlank (now (v .entry))) ⌝ }
-{
-    let mut i = 0;
-    while i < v.len() {
-        if v[i] == b' ' {
-            return i;
-        }
-        i += 1;
-    }
-    i
-}
-
 fn no_opening(v: &[u8]) -> Opening
     ensures { λ r. ⌜ r ≡ noOpening (now (v .entry)) ⌝ }
 {
@@ -101,11 +92,10 @@ fn no_opening(v: &[u8]) -> Opening
 pub fn read_opening(v: &[u8], bought: bool) -> Opening
     ensures { λ r. ⌜ r ≡ openingOf bought (now (v .entry)) ⌝ }
 {
-    let blank = find_blank(v);
-    if v.len() <= blank {
+    if LONGEST < v.len() {
         return no_opening(v);
     }
-    let Digits::Number(price) = read_number(&v[..blank], PRICE) else {
+    let Front::Ends(price, blank) = read_front(v, PRICE) else {
         return no_opening(v);
     };
     let Digits::Number(lots) = read_number(&v[blank + 1..], TRADED) else {

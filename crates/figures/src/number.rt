@@ -1,9 +1,9 @@
 // The number of a figure: its digits, read over each byte once.
 ghost use mathlib.Core.Path.{_≡_};
-ghost use Prim.Native.Nat.{_+_, _≤_, _<_, _^_};
+ghost use Prim.Native.Nat.{_+_, _-_, _≤_, _<_, _^_};
 ghost use lib.ListN.{length};
 ghost use Rattle.rules.specs.Figures.{tail};
-ghost use Rattle.figures.specs.Numbers.{digitsAfter, wholeOf, tailAfter, numberOf};
+ghost use Rattle.figures.specs.Numbers.{DigitOf, run, runNumber, digitsAfter, mayBeWhole, wholeOf, tailAfter, within, numberOf};
 use rules::Form;
 
 // What digits write.
@@ -12,25 +12,66 @@ pub enum Digits {
     Other,
 }
 
+// The digits at the start of bytes: how many they are, and the number that they write after another.
+pub struct Run {
+    pub size: usize,
+    pub number: u64,
+}
+
+// The digit that a byte writes, and more than 9 where it writes none.
+fn digit_of(x: u8) -> u64
+    ensures { λ r. ⌜ DigitOf x r ⌝ }
+{
+    std::num::wrapping_sub_u64(x as u64, b'0' as u64)
+}
+
+// The digits at the start of v, written after the number n.
+pub fn read_run(v: &[u8], n: u64) -> Run
+    requires { ⌜ (length (now v) ≤ 19) × (n < 10 ^ (19 - length (now v))) ⌝ }
+    ensures { λ r. ⌜ (r .size ≡ run (now (v .entry))) × (r .number ≡ runNumber n (now (v .entry))) ⌝ }
+{
+    let mut number = n;
+    let mut i = 0;
+    while i < v.len() {
+        let digit = digit_of(v[i]);
+        if 9 < digit {
+            return Run { size: i, number };
+        }
+        number = number * 10 + digit;
+        i += 1;
+    }
+    Run { size: i, number }
+}
+
 // The number that the digits of v write after the number n.
 fn read_digits(v: &[u8], n: u64) -> Digits
     requires { ⌜ (n < 10 ^ 9) × (length (now v) ≤ 9) ⌝ }
     ensures { λ r. ⌜ r ≡ digitsAfter n (now (v .entry)) ⌝ }
 {
-    let mut number = n;
-    let mut i = 0;
-    while i < v.len() {
-        let x = v[i];
-        if x < b'0' {
-            return Digits::Other;
-        }
-        if b'9' < x {
-            return Digits::Other;
-        }
-        number = number * 10 + (x - b'0') as u64;
-        i += 1;
+    let run = read_run(v, n);
+    if run.size != v.len() {
+        return Digits::Other;
     }
-    Digits::Number(number)
+    Digits::Number(run.number)
+}
+
+// 1 to `most` bytes, without a leading zero.
+pub fn may_be_whole(v: &[u8], most: usize) -> bool
+    ensures { λ r. ⌜ r ≡ mayBeWhole most (now (v .entry)) ⌝ }
+{
+    let size = v.len();
+    if size == 0 {
+        return false;
+    }
+    if most < size {
+        return false;
+    }
+    if v[0] == b'0' {
+        if 1 < size {
+            return false;
+        }
+    }
+    true
 }
 
 // At most `most` digits, without a leading zero.
@@ -38,17 +79,8 @@ fn read_whole(v: &[u8], most: usize) -> Digits
     requires { ⌜ most ≤ 9 ⌝ }
     ensures { λ r. ⌜ r ≡ wholeOf most (now (v .entry)) ⌝ }
 {
-    let size = v.len();
-    if size == 0 {
+    if !may_be_whole(v, most) {
         return Digits::Other;
-    }
-    if most < size {
-        return Digits::Other;
-    }
-    if v[0] == b'0' {
-        if 1 < size {
-            return Digits::Other;
-        }
     }
     read_digits(v, 0)
 }
@@ -68,11 +100,28 @@ fn read_tail(v: &[u8], n: u64) -> Digits
 }
 
 // How many bytes the point and the decimals are.
-fn tail_of(decimals: usize) -> usize
+pub fn tail_of(decimals: usize) -> usize
     requires { ⌜ decimals ≤ 9 ⌝ }
     ensures { λ r. ⌜ r ≡ tail decimals ⌝ }
 {
     if decimals == 0 { 0 } else { decimals + 1 }
+}
+
+// The number of a figure that has the number n before its point, and then v; in its range.
+pub fn with_tail(v: &[u8], n: u64, form: Form) -> Digits
+    requires { ⌜ (n < 10 ^ 9) × (length (now v) ≤ 10) ⌝ }
+    ensures { λ r. ⌜ r ≡ within form (tailAfter n (now (v .entry))) ⌝ }
+{
+    let Digits::Number(all) = read_tail(v, n) else {
+        return Digits::Other;
+    };
+    if all < form.least {
+        return Digits::Other;
+    }
+    if form.most < all {
+        return Digits::Other;
+    }
+    Digits::Number(all)
 }
 
 // The digits of a figure as one number, in its range.
@@ -88,14 +137,5 @@ pub fn read_number(v: &[u8], form: Form) -> Digits
     let Digits::Number(whole) = read_whole(&v[..point], form.whole) else {
         return Digits::Other;
     };
-    let Digits::Number(n) = read_tail(&v[point..], whole) else {
-        return Digits::Other;
-    };
-    if n < form.least {
-        return Digits::Other;
-    }
-    if form.most < n {
-        return Digits::Other;
-    }
-    Digits::Number(n)
+    with_tail(&v[point..], whole, form)
 }

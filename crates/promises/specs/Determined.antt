@@ -28,7 +28,7 @@ use Rattle.rules.specs.Answer.{Answer as Answer01}
 use Rattle.laws.specs.Sums.{upTo}
 use Rattle.laws.specs.Groups.{groupFrom}
 use Rattle.codes.specs.declared.Code.{Code}
-use Rattle.codes.specs.Codes.{codeOf, givenIn}
+use Rattle.codes.specs.Codes.{codeOf, givenIn, markOf}
 use Rattle.gain.specs.Ranges.{Gained}
 use Rattle.fields.specs.declared.Found.{Found}
 use Rattle.fields.specs.First.{firstAt}
@@ -84,6 +84,12 @@ read-code v = named (codeOf v)
 
 pub given : (keys : List ℕ) (count key : ℕ) → Determined (λ (r : Bool). r ≡ givenIn (take count keys) key)
 given keys count key = named (givenIn (take count keys) key)
+
+pub mark-of : (key : ℕ) → Determined (λ (r : ℕ). r ≡ markOf key)
+mark-of key = named (markOf key)
+
+pub known : (keys marks : List ℕ) (count key : ℕ) → Determined (λ (r : Bool). r ≡ givenIn (take count keys) key)
+known keys marks count key = named (givenIn (take count keys) key)
 
 -- gain
 pub gain-of : (long : Bool) (settlement price : Fen) (lots : ℕ) → Determined (λ (r : ℤ). Gained long settlement price lots r)

@@ -12,6 +12,7 @@ ghost use mathlib.Core.List.{List};
 ghost use Prim.Native.Nat.{ℕ, _-_, _≤_};
 ghost use lib.ListN.{length, take, drop};
 ghost use Rattle.rules.specs.Fields.{fieldsOf};
+ghost use Rattle.codes.specs.Codes.{Marked};
 ghost use Rattle.book.specs.Ranges.{Sound, Short};
 ghost use Rattle.roll.specs.Roll.{noRoll, codeAt, customerAt, endAt, rollFrom, rollOf};
 
@@ -63,12 +64,13 @@ fn refused(number: u64, place: usize) -> Roll
 fn code_at(
     book: &[u8],
     keys: &[u64; 256],
+    marks: &[u8; 1024],
     count: usize,
     at: usize,
     start: usize,
     end: usize,
 ) -> CodeAt
-    requires { ⌜ (start ≤ end) × (end ≤ length (now book)) ⌝ ∗ ⌜ count ≤ length (now keys) ⌝ }
+    requires { ⌜ (start ≤ end) × (end ≤ length (now book)) ⌝ ∗ ⌜ count ≤ length (now keys) ⌝ ∗ ⌜ Marked (now keys) (now marks) count ⌝ }
     ensures { λ r. ⌜ r ≡ codeAt at count (take count (now (keys .entry))) (take (end - start) (drop start (now (book .entry)))) ⌝ }
 {
     if rules::MOST_CUSTOMERS <= count {
@@ -79,7 +81,7 @@ fn code_at(
     }
     match codes::read_code(&book[start..end]) {
         Code::Key(key) => {
-            if codes::given(keys, count, key) {
+            if codes::known(keys, marks, count, key) {
                 return CodeAt::Refused(Refusal {
                     number: 7,
                     place: at,
@@ -99,15 +101,16 @@ fn customer_at(
     book: &[u8],
     terms: Terms,
     keys: &[u64; 256],
+    marks: &[u8; 1024],
     count: usize,
     at: usize,
     start: usize,
     end: usize,
 ) -> CustomerAt
-    requires { ⌜ Short (now book) ⌝ ∗ ⌜ Sound terms ⌝ ∗ ⌜ (start ≤ end) × (end ≤ length (now book)) ⌝ ∗ ⌜ count ≤ length (now keys) ⌝ }
+    requires { ⌜ Short (now book) ⌝ ∗ ⌜ Sound terms ⌝ ∗ ⌜ (start ≤ end) × (end ≤ length (now book)) ⌝ ∗ ⌜ count ≤ length (now keys) ⌝ ∗ ⌜ Marked (now keys) (now marks) count ⌝ }
     ensures { λ r. ⌜ r ≡ customerAt (now (book .entry)) terms (now (keys .entry)) count at start end ⌝ }
 {
-    match code_at(book, keys, count, at, start, end) {
+    match code_at(book, keys, marks, count, at, start, end) {
         CodeAt::Key(key) => match book::read_group(book, terms, at, end) {
             GroupAt::Closed {
                 place,
@@ -158,6 +161,7 @@ fn read_customers(book: &[u8], terms: Terms, first: usize) -> Roll
     ensures { λ r. ⌜ r ≡ rollFrom terms first (fieldsOf (drop first (now (book .entry)))) ⌝ }
 {
     let mut keys = [0u64; 256];
+    let mut marks = [0u8; 1024];
     let mut sizes = [0u8; 256];
     let mut codes = [0u8; 3072];
     let mut rows = [BLANK; 256];
@@ -184,10 +188,12 @@ fn read_customers(book: &[u8], terms: Terms, first: usize) -> Roll
         if tag != b'C' {
             return refused(3, at);
         }
-        match customer_at(book, terms, &keys, count, at, start, end) {
+        match customer_at(book, terms, &keys, &marks, count, at, start, end) {
             CustomerAt::New { key, place, row } => {
                 writing::put_bytes(&mut codes, 12 * count, &book[start..end]);
                 keys[count] = key;
+                let mark = codes::mark_of(key);
+                marks[mark] = 1;
                 sizes[count] = (end - start) as u8;
                 rows[count] = row;
                 count += 1;

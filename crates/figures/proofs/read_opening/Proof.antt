@@ -1,66 +1,57 @@
 -- `figures::read_opening` meets its contract: what is read stands on the two sides of the first blank, and `by-numbers` says what
 -- two numbers make.
 -- Assumes nothing.
+use Prim.Native.Nat.{_<_}
 use native.Mathlib.Omega.{arith}
 use mathlib.Core.Path.{_≡_, sym, ap, _∙_}
-use lib.Seq.{length-take-le}
-use Rattle.rules.specs.Figures.{openingOf, has, priceForm, tradedForm, afterBlank}
+use lib.ListN.{length}
+use Rattle.rules.specs.Figures.{openingOf, has, priceForm, tradedForm, upToBlank, afterBlank}
 use Rattle.figures.specs.declared.number.Digits.{Digits}
 use Rattle.figures.specs.declared.number.Digits.the-variants.{Number, Other}
 use Rattle.figures.specs.Numbers.{numberOf}
 use Rattle.figures.proofs.Lists.{to-end}
-use Rattle.figures.proofs.Blanks.{up-to-blank, after-blank}
-use Rattle.figures.proofs.Openings.{openingBy, by-numbers, no-blank}
+use Rattle.figures.proofs.Blanks.{after-blank}
+use Rattle.figures.proofs.Fronts.{front-read}
+use Rattle.figures.proofs.Openings.{openingBy, by-numbers, too-long, no-price}
 use borrow.Author.Needs.{needs}
 use Rattle.figures.proofs.read_opening.Statement.{statement}
 use Rattle.figures.proofs.read_opening.Tie as tie
 
 -- what the price says
 price-read :
-    (c : tie.After-read-number) (d : Digits) → c .read-number .result ≡ d →
-    let a = c .before .before .before .before .before .args in
-    openingOf (a .bought) (a .v .now)
-    ≡ openingBy (a .bought) (has "," (a .v .now)) d (numberOf tradedForm (afterBlank (a .v .now)))
-price-read c d h =
-    let b = c .before .before .before in
-    let a = b .before .before .args in
-    let p = up-to-blank (a .v .now) (b .find-blank .result) (b .find-blank .ensures) (c .before .before .if1 .left) in
-    by-numbers (a .bought) (a .v .now)
-    ∙ ap (λ (x : Digits). openingBy (a .bought) (has "," (a .v .now)) x (numberOf tradedForm (afterBlank (a .v .now))))
-    (sym (c .read-number .ensures ∙ ap (numberOf priceForm) p) ∙ h)
+    (c : tie.After-known-told) →
+    let v = c .before .before .before .before .before .before .args .v .now in
+    let blank = c .before .price .given .0 .1 .0 in
+    (blank ≡ length (upToBlank v)) × (blank < length v) × (numberOf priceForm (upToBlank v) ≡ Number (c .before .price .given .0 .0))
+price-read c =
+    let r = c .before .before .before in
+    front-read priceForm (r .before .before .before .args .v .now) _ _ (sym (r .read-front .ensures) ∙ c .before .price .given .1)
 
 -- and what the lots say
 lots-read :
-    (c : tie.After-read-number2) (d : Digits) → c .read-number2 .result ≡ d →
+    (c : tie.After-read-number) (d : Digits) → c .read-number .result ≡ d →
     let k = c .before .before in
-    let a = k .before .before .before .before .before .before .before .before .args in
+    let a = k .before .before .before .before .before .before .args in
     openingOf (a .bought) (a .v .now) ≡ openingBy (a .bought) (has "," (a .v .now)) (Number (k .before .price .given .0 .0)) d
 lots-read c d h =
     let k = c .before .before in
-    let r = k .before .before .before in
-    let b = r .before .before .before in
-    let a = b .before .before .args in
-    let p = after-blank (a .v .now) (b .find-blank .result) (b .find-blank .ensures) (r .before .before .if1 .left) in
-    price-read r (Number _) (k .before .price .given .1)
+    let a = k .before .before .before .before .before .before .args in
+    let p = price-read k in
+    by-numbers (a .bought) (a .v .now)
+    ∙ ap (λ (x : Digits). openingBy (a .bought) (has "," (a .v .now)) x (numberOf tradedForm (afterBlank (a .v .now)))) (p .2)
     ∙ ap (openingBy (a .bought) (has "," (a .v .now)) (Number _))
-    (sym (c .read-number2 .ensures ∙ ap (numberOf tradedForm) (to-end (a .v .now) _ ∙ p)) ∙ h)
-
-find-blank-requires : tie.Need-find-blank-requires
-find-blank-requires c κs = search needs
+    (sym (c .read-number .ensures ∙ ap (numberOf tradedForm) (to-end (a .v .now) _ ∙ after-blank (a .v .now) _ (p .0) (p .1))) ∙ h)
 
 no-opening-requires : tie.Need-no-opening-requires
 no-opening-requires c κs = search needs
 
 returns : tie.Need-returns
 returns c =
-    let a = c .before .before .before .before .args in
-    c .no-opening .ensures ∙ sym (no-blank (a .bought) (a .v .now) (omega arith))
+    let a = c .before .before .before .args in
+    c .no-opening .ensures ∙ sym (too-long (a .bought) (a .v .now) (omega arith))
 
-slice-aggregate-read-number : tie.Need-slice-aggregate-read-number
-slice-aggregate-read-number c = let b = c .before .before in sym (length-take-le (b .find-blank .result) (b .before .before .args .v .now) (omega arith))
-
-read-number-requires : tie.Need-read-number-requires
-read-number-requires c κs = search needs
+read-front-requires : tie.Need-read-front-requires
+read-front-requires c κs = search needs
 
 enum-known-price : tie.Need-enum-known-price
 enum-known-price c = search needs
@@ -72,22 +63,25 @@ no-opening-requires-2 : tie.Need-no-opening-requires-2
 no-opening-requires-2 c κs = search needs
 
 returns-2 : tie.Need-returns-2
-returns-2 c = c .no-opening2 .ensures ∙ sym (price-read (c .before .before .before) Other (c .before .enum-told .given .1))
+returns-2 c =
+    let r = c .before .before .before in
+    let a = r .before .before .before .args in
+    c .no-opening2 .ensures ∙ sym (no-price (a .bought) (a .v .now) (sym (r .read-front .ensures) ∙ c .before .enum-told .given .1))
 
 add-read-number : tie.Need-add-read-number
-add-read-number c = search needs
+add-read-number c = omega (arith, price-read c .1)
 
 sub-read-number : tie.Need-sub-read-number
-sub-read-number c = search needs
+sub-read-number c = omega (arith, price-read c .1)
 
 part-read-number-start : tie.Need-part-read-number-start
-part-read-number-start c = search needs
+part-read-number-start c = omega (arith, price-read c .1)
 
 part-read-number-end : tie.Need-part-read-number-end
 part-read-number-end c = search needs
 
-read-number-requires-2 : tie.Need-read-number-requires-2
-read-number-requires-2 c κs = search needs
+read-number-requires : tie.Need-read-number-requires
+read-number-requires c κs = search needs
 
 enum-known-lots : tie.Need-enum-known-lots
 enum-known-lots c = search needs
@@ -108,11 +102,9 @@ pub read-opening-spec : {M : Type 1} → statement M
 read-opening-spec =
     tie.close
     (tie.spec
-    find-blank-requires
     no-opening-requires
     returns
-    slice-aggregate-read-number
-    read-number-requires
+    read-front-requires
     enum-known-price
     enum-told
     no-opening-requires-2
@@ -121,7 +113,7 @@ read-opening-spec =
     sub-read-number
     part-read-number-start
     part-read-number-end
-    read-number-requires-2
+    read-number-requires
     enum-known-lots
     enum-told-2
     no-opening-requires-3

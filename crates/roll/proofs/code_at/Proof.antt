@@ -7,7 +7,7 @@ use Rattle.roll.proofs.code_at.Statement.{statement}
 use Rattle.roll.proofs.code_at.Tie as tie
 use Rattle.roll.proofs.code_at.Reads as reads
 use Rattle.roll.proofs.code_at.Lts as lts
-use Rattle.codes.proofs.given.Reads as given-reads
+use Rattle.codes.proofs.known.Reads as known-reads
 use Rattle.codes.proofs.read_code.Reads as read-code-reads
 
 returns : tie.Need-returns
@@ -28,17 +28,17 @@ read-code-requires c κs = search needs
 enum-known-key : tie.Need-enum-known-key
 enum-known-key c = search needs
 
-given-requires : tie.Need-given-requires
-given-requires c κs = search needs
+known-requires : tie.Need-known-requires
+known-requires c κs = search needs
 
 returns-2 : tie.Need-returns-2
-returns-2 c = let g = c .before in let x = g .before .before in simp (lt-leb _ _ (x .before .before .before .before .if1 .left), sym (x .before .before .read-code .ensures) ∙ x .key .given .1, sym (g .given .ensures) ∙ c .if2 .taken)
+returns-2 c = let g = c .before in let x = g .before .before in simp (lt-leb _ _ (x .before .before .before .before .if1 .left), sym (x .before .before .read-code .ensures) ∙ x .key .given .1, sym (g .known .ensures) ∙ c .if2 .taken)
 
 enum-told : tie.Need-enum-told
 enum-told c = search needs
 
 returns-3 : tie.Need-returns-3
-returns-3 c = let g = c .before in let x = g .before .before in simp (lt-leb _ _ (x .before .before .before .before .if1 .left), sym (x .before .before .read-code .ensures) ∙ x .key .given .1, sym (g .given .ensures) ∙ c .if2 .left)
+returns-3 c = let g = c .before in let x = g .before .before in simp (lt-leb _ _ (x .before .before .before .before .if1 .left), sym (x .before .before .read-code .ensures) ∙ x .key .given .1, sym (g .known .ensures) ∙ c .if2 .left)
 
 returns-4 : tie.Need-returns-4
 returns-4 c = let r = c .before .before in simp (lt-leb _ _ (r .before .before .if1 .left), sym (r .read-code .ensures) ∙ c .enum-told .given .1)
@@ -53,7 +53,7 @@ code-at-spec =
     part-read-code-end
     read-code-requires
     enum-known-key
-    given-requires
+    known-requires
     returns-2
     enum-told
     returns-3
