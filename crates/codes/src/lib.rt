@@ -105,7 +105,7 @@ pub fn given(keys: &[u64; 256], count: usize, key: u64) -> bool
     found
 }
 
-// Where a key's mark stands. 1,021 is prime, so that codes with the same bytes behind seldom share a place.
+// Where a key's mark stands. 1,021 is prime: codes that are numbered in a row seldom share a place, as they do modulo 1,024.
 pub fn mark_of(key: u64) -> usize
     ensures { λ r. ⌜ r ≡ markOf key ⌝ }
 {
@@ -117,8 +117,8 @@ pub fn known(keys: &[u64; 256], marks: &[u8; 1024], count: usize, key: u64) -> b
     requires { ⌜ (count ≤ 256) × (count ≤ length (now keys)) ⌝ ∗ ⌜ Marked (now keys) (now marks) count ⌝ }
     ensures { λ r. ⌜ r ≡ givenIn (take count (now (keys .entry))) key ⌝ }
 {
-    let place = mark_of(key);
-    if marks[place] == 0 {
+    let mark = mark_of(key);
+    if marks[mark] == 0 {
         return false;
     }
     given(keys, count, key)
