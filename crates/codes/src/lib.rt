@@ -105,15 +105,15 @@ pub fn given(keys: &[u64; 256], count: usize, key: u64) -> bool
     found
 }
 
-// Where a key's mark stands. 1,021 is prime: codes that are numbered in a row seldom share a place, as they do modulo 1,024.
+// Where a key's mark stands. 4,093 is prime: codes that are numbered in a row seldom share a place, as they do modulo 4,096.
 pub fn mark_of(key: u64) -> usize
     ensures { λ r. ⌜ r ≡ markOf key ⌝ }
 {
-    (key % 1_021) as usize
+    (key % 4_093) as usize
 }
 
 // Whether this key is among the first `count`, which all have their marks: the keys are looked through only where its place is marked.
-pub fn known(keys: &[u64; 256], marks: &[u8; 1024], count: usize, key: u64) -> bool
+pub fn known(keys: &[u64; 256], marks: &[u8; 4096], count: usize, key: u64) -> bool
     requires { ⌜ (count ≤ 256) × (count ≤ length (now keys)) ⌝ ∗ ⌜ Marked (now keys) (now marks) count ⌝ }
     ensures { λ r. ⌜ r ≡ givenIn (take count (now (keys .entry))) key ⌝ }
 {

@@ -64,7 +64,7 @@ fn refused(number: u64, place: usize) -> Roll
 fn code_at(
     book: &[u8],
     keys: &[u64; 256],
-    marks: &[u8; 1024],
+    marks: &[u8; 4096],
     count: usize,
     at: usize,
     start: usize,
@@ -101,7 +101,7 @@ fn customer_at(
     book: &[u8],
     terms: Terms,
     keys: &[u64; 256],
-    marks: &[u8; 1024],
+    marks: &[u8; 4096],
     count: usize,
     at: usize,
     start: usize,
@@ -161,7 +161,7 @@ fn read_customers(book: &[u8], terms: Terms, first: usize) -> Roll
     ensures { λ r. ⌜ r ≡ rollFrom terms first (fieldsOf (drop first (now (book .entry)))) ⌝ }
 {
     let mut keys = [0u64; 256];
-    let mut marks = [0u8; 1024];
+    let mut marks = [0u8; 4096];
     let mut sizes = [0u8; 256];
     let mut codes = [0u8; 3072];
     let mut rows = [BLANK; 256];
