@@ -27,7 +27,9 @@ use Rattle.cascade.specs.State.{lineAt as stateLine}
 use Rattle.cascade.specs.After.{outcomeOf, run-recoded, count-all, keys-all}
 use Rattle.roll.specs.Roll.{sizesOf, codesOf}
 use Rattle.roll.proofs.Named.{code-length}
-use Rattle.writing.specs.Pieces.{shown, reportHead, listedHead, reported-shown, printed-shown, report-head, listed-head}
+use Rattle.writing.specs.Shown.{shown}
+use Rattle.entries.specs.Entries.{reportHead, reported-shown, report-head}
+use Rattle.printing.specs.Printed.{listedHead, printed-shown, listed-head}
 use Rattle.report.specs.Lines.{codeAt, lineAt, reportBytes, listingBytes, Ready}
 use Rattle.allotment.specs.Worked.{stateOf, linesAfter}
 use Rattle.allotment.proofs.Start.{nobody, at, sane-at, in-order, lines-are}

@@ -19,7 +19,8 @@ use Rattle.laws.specs.Sane.{Customers}
 use Rattle.cascade.specs.State.{rowAt, linesOf, pendingAt, afterAll, Steady}
 use Rattle.cascade.specs.State.{lineAt as stateLine}
 use Rattle.cascade.specs.After.{steady-all, count-all}
-use Rattle.writing.specs.Pieces.{joined-append, printed-length, listedHead, listed-head-length}
+use Rattle.writing.specs.Shown.{joined-append}
+use Rattle.printing.specs.Printed.{printed-length, listedHead, listed-head-length}
 use Rattle.report.specs.declared.Lines.{Lines}
 use Rattle.report.specs.Lines.{codeAt, lineAt, listingBytes, Ready}
 use Rattle.allotment.specs.Worked.{stateOf, linesAfter}

@@ -152,7 +152,7 @@ pub fn list(book: &[u8], out: &mut [u8]) -> usize
     let worked = work_out(book);
     let stopped = worked.refusal;
     if stopped.number != 0 {
-        return writing::put_refusal(out, stopped.number, stopped.place as u64);
+        return printing::put_refusal(out, stopped.number, stopped.place as u64);
     }
     let lines = worked.lines;
     report::put_listing(out, lines)

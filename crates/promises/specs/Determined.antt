@@ -2,7 +2,7 @@
 -- equal." What each contract says is written here as it stands in the source, for whatever the function is given; a lent buffer at exit is
 -- part of the result.
 -- Assumes nothing.
-use Prim.Native.Nat.{ℕ}
+use Prim.Native.Nat.{ℕ, _≤_}
 use mathlib.Core.Path.{_≡_, sym, ap, ap₂, _∙_}
 use mathlib.Core.Bool.{Bool}
 use mathlib.Core.List.{List, [], _∷_, _++_}
@@ -22,7 +22,7 @@ use Rattle.rules.specs.Book.{Coded, Refused, judge, net, netLong}
 use Rattle.rules.specs.Standing.{standingAt, countedPending}
 use Rattle.rules.specs.Division.{sumOf}
 use Rattle.rules.specs.Cascade.{pendingOf}
-use Rattle.rules.specs.Report.{reported, printed, listingOf, listing}
+use Rattle.rules.specs.Report.{digits, letter, reported, printed, listingOf, listing}
 use Rattle.rules.specs.Answer.{answer}
 use Rattle.rules.specs.Answer.{Answer as Answer01}
 use Rattle.laws.specs.Sums.{upTo}
@@ -41,7 +41,9 @@ use Rattle.division.specs.Shares.{at, sharesOf}
 use Rattle.cascade.specs.declared.Cascade.{Cascade}
 use Rattle.cascade.specs.State.{linesOf, afterTier, afterAll}
 use Rattle.writing.specs.Written.{Wrote}
-use Rattle.writing.specs.Pieces.{shown, reportHead, listedHead, reportedLength}
+use Rattle.writing.specs.Shown.{shown}
+use Rattle.entries.specs.Entries.{reportHead, reportedLength}
+use Rattle.printing.specs.Printed.{listedHead}
 use Rattle.roll.specs.declared.Roll.{Roll}
 use Rattle.roll.specs.Roll.{rollOf}
 use Rattle.report.specs.declared.Lines.{Lines}
@@ -137,9 +139,28 @@ pub owed : (st : Cascade) → Determined (λ (r : ℕ). r ≡ sumOf pendingOf (l
 owed st = named (sumOf pendingOf (linesOf st))
 
 -- writing
+pub put-byte : (entry : List ℕ) (at b : ℕ) → Determined (λ (r : Left ℕ). Wrote at (b ∷ []) entry (r .exit) (r .result))
+put-byte entry at b = wrote at (b ∷ []) entry
+
+pub put-three : (entry : List ℕ) (at a b c : ℕ) → Determined (λ (r : Left ℕ). Wrote at (a ∷ b ∷ c ∷ []) entry (r .exit) (r .result))
+put-three entry at a b c = wrote at (a ∷ b ∷ c ∷ []) entry
+
 pub put-bytes : (entry s : List ℕ) (at : ℕ) → Determined (λ (r : Left ℕ). Wrote at s entry (r .exit) (r .result))
 put-bytes entry s at = wrote at s entry
 
+pub digits-length : (n : ℕ) → Determined (λ (r : ℕ). (r ≡ length (digits n)) × (r ≤ 20))
+digits-length n r q e f = e .0 ∙ sym (f .0)
+
+pub fill-digits : (entry : List ℕ) (at count n : ℕ) → Determined (λ (r : Left ℕ). Wrote at (digits n) entry (r .exit) (r .result))
+fill-digits entry at count n = wrote at (digits n) entry
+
+pub put-digits : (entry : List ℕ) (at n : ℕ) → Determined (λ (r : Left ℕ). Wrote at (digits n) entry (r .exit) (r .result))
+put-digits entry at n = wrote at (digits n) entry
+
+pub letter-of : (standing : Standing) → Determined (λ (r : ℕ). r ≡ letter standing)
+letter-of standing = named (letter standing)
+
+-- entries
 pub put-reported : (entry code : List ℕ) (at offset : ℕ) (standing : Standing) →
     Determined (λ (r : Left ℕ). Wrote at (reported (shown code standing offset)) entry (r .exit) (r .result))
 put-reported entry code at offset standing = wrote at (reported (shown code standing offset)) entry
@@ -153,6 +174,7 @@ reported-length size offset = named (reportedLength size offset)
 pub head-length : (total residue : ℕ) → Determined (λ (r : ℕ). r ≡ length (reportHead total residue))
 head-length total residue = named (length (reportHead total residue))
 
+-- printing
 pub put-printed : (entry code : List ℕ) (at offset : ℕ) (standing : Standing) →
     Determined (λ (r : Left ℕ). Wrote at (printed (shown code standing offset)) entry (r .exit) (r .result))
 put-printed entry code at offset standing = wrote at (printed (shown code standing offset)) entry

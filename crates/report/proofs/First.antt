@@ -17,7 +17,7 @@ use Rattle.laws.specs.Sums.{upTo, sum-upTo}
 use Rattle.laws.specs.Indices.{map-more}
 use Rattle.cascade.specs.State.{rowAt}
 use Rattle.cascade.specs.declared.Row.{Row}
-use Rattle.writing.specs.Pieces.{shown, joined-append}
+use Rattle.writing.specs.Shown.{shown, joined-append}
 use Rattle.writing.specs.Written.{Room, Wrote, join}
 
 -- the code of customer i and its line, over the arrays that the code has in hand

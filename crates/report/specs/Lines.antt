@@ -7,7 +7,9 @@ use Rattle.rules.specs.Cascade.{Line}
 use Rattle.rules.specs.Report.{joined, reported, printed}
 use Rattle.laws.specs.Sums.{upTo}
 use Rattle.cascade.specs.State.{rowAt}
-use Rattle.writing.specs.Pieces.{shown, reportHead, listedHead}
+use Rattle.writing.specs.Shown.{shown}
+use Rattle.entries.specs.Entries.{reportHead}
+use Rattle.printing.specs.Printed.{listedHead}
 use Rattle.report.specs.declared.Lines.{Lines}
 
 -- the code of customer i: so many bytes of its block

@@ -4,7 +4,7 @@ ghost use mathlib.Core.Path.{_≡_};
 ghost use Prim.Native.Nat.{_≤_};
 ghost use lib.ListN.{length};
 ghost use Rattle.writing.specs.Written.{Room, Wrote};
-ghost use Rattle.writing.specs.Pieces.{reportedLength};
+ghost use Rattle.entries.specs.Entries.{reportedLength};
 ghost use Rattle.report.specs.Lines.{reportBytes, listingBytes, Ready};
 
 // What is reported of a book: the total, the residue, and for each customer, in book order, its code in a block of 12 bytes, the
@@ -23,7 +23,7 @@ fn line_length(size: usize, offset: u64) -> usize
     requires { ⌜ size ≤ 12 ⌝ }
     ensures { λ r. ⌜ (r ≡ reportedLength size offset) × (r ≤ 42) ⌝ }
 {
-    writing::reported_length(size, offset)
+    entries::reported_length(size, offset)
 }
 
 // How many bytes the report takes.
@@ -34,7 +34,7 @@ pub fn report_length(l: Lines) -> usize
     let count = l.count;
     let sizes = l.sizes;
     let rows = l.rows;
-    let mut n = writing::head_length(l.total, l.residue);
+    let mut n = entries::head_length(l.total, l.residue);
     let mut i: usize = 0;
     while i < count {
         let row = rows[i];
@@ -54,14 +54,14 @@ pub fn put_report(out: &mut [u8], l: Lines) -> usize
     let sizes = l.sizes;
     let codes = l.codes;
     let rows = l.rows;
-    let mut at = writing::put_head(out, l.total, l.residue);
+    let mut at = entries::put_head(out, l.total, l.residue);
     let mut customer: usize = 0;
     while customer < count {
         let row = rows[customer];
         let standing = row.standing;
         let start = 12 * customer;
         let end = start + sizes[customer] as usize;
-        at = writing::put_reported(out, at, &codes[start..end], standing, row.offset as u64);
+        at = entries::put_reported(out, at, &codes[start..end], standing, row.offset as u64);
         customer += 1;
     }
     at
@@ -77,14 +77,14 @@ pub fn put_listing(out: &mut [u8], l: Lines) -> usize
     let sizes = l.sizes;
     let codes = l.codes;
     let rows = l.rows;
-    let mut at = writing::put_printed_head(out, l.total, l.residue);
+    let mut at = printing::put_printed_head(out, l.total, l.residue);
     let mut line: usize = 0;
     while line < count {
         let row = rows[line];
         let standing = row.standing;
         let start = 12 * line;
         let end = start + sizes[line] as usize;
-        at = writing::put_printed(out, at, &codes[start..end], standing, row.offset as u64);
+        at = printing::put_printed(out, at, &codes[start..end], standing, row.offset as u64);
         line += 1;
     }
     at

@@ -1,3 +1,3 @@
--- What the contracts of writing cite: a buffer with bytes written into it, and the pieces that are written.
+-- What the contracts of writing cite: a buffer with bytes written into it; and what is shown of a line, for those who write lines.
 pub mod Written
-pub mod Pieces
+pub mod Shown

@@ -10,7 +10,7 @@ use mir.Val.{Fits}
 use Rattle.rules.specs.Book.{Refused}
 use Rattle.rules.specs.Report.{listingOf}
 use Rattle.laws.specs.Digits.{digits-length-20}
-use Rattle.writing.specs.Pieces.{refusal-length}
+use Rattle.printing.specs.Printed.{refusal-length}
 use Rattle.report.specs.Lines.{listingBytes}
 use Rattle.allotment.proofs.Calls.{Stops, stops, Goes, goes}
 use Rattle.allotment.proofs.Space.{listing-room}
@@ -21,7 +21,7 @@ use Rattle.allotment.proofs.list.Reads as reads
 use Rattle.allotment.proofs.list.Lts as lts
 use Rattle.allotment.proofs.work_out.Reads as work-out-reads
 use Rattle.report.proofs.put_listing.Reads as put-listing-reads
-use Rattle.writing.proofs.put_refusal.Reads as put-refusal-reads
+use Rattle.printing.proofs.put_refusal.Reads as put-refusal-reads
 
 -- a refusal
 module _ (c : tie.Then1) where

@@ -6,7 +6,7 @@ use native.Mathlib.Omega.{arith}
 use borrow.Author.Needs.{needs}
 use mathlib.Core.List.{_++_}
 use lib.ListN.{length, getD, length-append}
-use Rattle.writing.specs.Pieces.{reportHead}
+use Rattle.entries.specs.Entries.{reportHead}
 use Rattle.rules.specs.Report.{reported}
 use Rattle.writing.specs.Written.{Room, Wrote, join, written-nothing}
 use Rattle.report.specs.Lines.{lineAt, reportBytes}

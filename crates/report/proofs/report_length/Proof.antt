@@ -14,7 +14,7 @@ use Rattle.laws.specs.Sums.{upTo}
 use Rattle.laws.specs.Indices.{sum-more, sum-below}
 use Rattle.laws.specs.Digits.{digits-length-20}
 use Rattle.cascade.specs.State.{rowAt}
-use Rattle.writing.specs.Pieces.{reportHead, reportedLength, reported-length, report-head-length}
+use Rattle.entries.specs.Entries.{reportHead, reportedLength, reported-length, report-head-length}
 use Rattle.report.specs.Lines.{lineAt, reportBytes, Ready}
 use Rattle.report.specs.declared.Lines.{Lines}
 use Rattle.report.proofs.First.{code-length, first, first-length}

@@ -1,0 +1,2 @@
+-- What the contracts of entries cite: the pieces of a report.
+pub mod Entries

@@ -1,0 +1,2 @@
+-- What the contracts of printing cite: the pieces of a listing.
+pub mod Printed
