@@ -8,8 +8,8 @@ use lib.ListN.{length}
 use Rattle.rules.specs.declared.Terms.{Terms}
 use Rattle.rules.specs.Book.{Customer, Verdict, Refused, Accepted, judge}
 use Rattle.laws.specs.Sane.{Customers, accepted-sane, refused-above}
-use Rattle.book.specs.declared.Refusal.{Refusal}
-use Rattle.book.specs.Reading.{refusal}
+use Rattle.fields.specs.declared.Refusal.{Refusal}
+use Rattle.fields.specs.Reading.{refusal}
 use Rattle.cascade.specs.declared.Cascade.{Cascade}
 use Rattle.rules.specs.Division.{sumOf}
 use Rattle.rules.specs.Cascade.{pendingOf}

@@ -15,8 +15,8 @@ use Rattle.rules.specs.Report.{digits, joined, printed, listingOf, listing}
 use Rattle.rules.specs.Answer.{fitted, answerOf, answer, lent}
 use Rattle.rules.specs.Answer.{refused as refused01}
 use Rattle.laws.specs.Sane.{Customers, accepted-sane, refused-above}
-use Rattle.book.specs.declared.Refusal.{Refusal}
-use Rattle.book.specs.Reading.{refusal}
+use Rattle.fields.specs.declared.Refusal.{Refusal}
+use Rattle.fields.specs.Reading.{refusal}
 use Rattle.writing.specs.Written.{written, written-front}
 use Rattle.report.specs.declared.Lines.{Lines}
 use Rattle.report.specs.Lines.{lineAt, reportBytes, listingBytes, Ready}

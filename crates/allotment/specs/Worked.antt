@@ -7,7 +7,7 @@ use Rattle.rules.specs.declared.Terms.{Terms}
 use Rattle.rules.specs.Division.{sumOf}
 use Rattle.rules.specs.Book.{Customer, Verdict, Refused, Accepted}
 use Rattle.rules.specs.Cascade.{pendingOf}
-use Rattle.book.specs.Reading.{refusal}
+use Rattle.fields.specs.Reading.{refusal}
 use Rattle.cascade.specs.declared.Cascade.{Cascade}
 use Rattle.cascade.specs.State.{linesOf, afterAll}
 use Rattle.roll.specs.Roll.{blank, keysOf, sizesOf, codesOf, rowsOf}

@@ -1,7 +1,7 @@
 // The call: a book and a lent buffer in; a number, a place and a length out.
-use book::Refusal;
 use cascade::Cascade;
 use cascade::Row;
+use fields::Refusal;
 use report::Lines;
 use rules::Standing;
 ghost use mathlib.Core.Path.{_≡_};

@@ -1,2 +1,4 @@
 pub mod First
 pub mod Laws
+pub mod Reading
+pub mod Ranges

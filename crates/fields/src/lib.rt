@@ -1,13 +1,29 @@
-// A field of the book at a place.
+// A field of the book at a place, and the figure of the field that is due there.
+use rules::Figure;
+use rules::Form;
 ghost use mathlib.Core.Path.{_≡_};
+ghost use Prim.Native.Nat.{_+_, _≤_};
 ghost use lib.ListN.{drop};
 ghost use Rattle.rules.specs.Fields.{fieldsOf};
 ghost use Rattle.fields.specs.First.{firstAt};
+ghost use Rattle.fields.specs.Reading.{refusalIn, figureFrom};
 
 // What begins at a place: a whole field, whose value is the book's bytes from start to end, or less than one.
 pub enum Found {
     Short,
     Field { tag: u8, start: usize, end: usize },
+}
+
+// A refusal: its number and its place.
+pub struct Refusal {
+    pub number: u64,
+    pub place: usize,
+}
+
+// The figure of the field that is due, and the place after it.
+pub enum FigureAt {
+    Value { number: u64, next: usize },
+    Refused(Refusal),
 }
 
 pub fn field_at(book: &[u8], at: usize) -> Found
@@ -29,5 +45,46 @@ pub fn field_at(book: &[u8], at: usize) -> Found
         tag: book[at],
         start,
         end: start + size,
+    }
+}
+
+pub fn refusal_in(f: FigureAt) -> Refusal
+    ensures { λ r. ⌜ r ≡ refusalIn f ⌝ }
+{
+    match f {
+        FigureAt::Value { number: _, next: _ } => Refusal {
+            number: 0,
+            place: 0,
+        },
+        FigureAt::Refused(r) => r,
+    }
+}
+
+fn no_figure(number: u64, place: usize) -> FigureAt
+    ensures { λ r. ⌜ r ≡ FigureAt.Refused (record { number = number; place = place }) ⌝ }
+{
+    FigureAt::Refused(Refusal { number, place })
+}
+
+// The figure of the field that is due at a place, with this tag.
+pub fn figure_at(book: &[u8], at: usize, tag: u8, form: Form) -> FigureAt
+    requires { ⌜ form .whole + form .decimals ≤ 9 ⌝ }
+    ensures { λ r. ⌜ r ≡ figureFrom at tag form (fieldsOf (drop at (now (book .entry)))) ⌝ }
+{
+    let Found::Field {
+        tag: found,
+        start,
+        end,
+    } = field_at(book, at)
+    else {
+        return no_figure(2, at);
+    };
+    if found != tag {
+        return no_figure(3, at);
+    }
+    match figures::read_figure(&book[start..end], form) {
+        Figure::Value(number) => FigureAt::Value { number, next: end },
+        Figure::Comma => no_figure(4, at),
+        Figure::Malformed => no_figure(5, at),
     }
 }

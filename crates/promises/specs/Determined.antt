@@ -6,7 +6,7 @@ use Prim.Native.Nat.{ℕ, _≤_}
 use mathlib.Core.Path.{_≡_, sym, ap, ap₂, _∙_}
 use mathlib.Core.Bool.{Bool}
 use mathlib.Core.List.{List, [], _∷_, _++_}
-use lib.IntN.{ℤ}
+use lib.IntN.{ℤ, pos}
 use lib.ListN.{length, take, drop}
 use Rattle.rules.specs.declared.Fen.{Fen}
 use Rattle.rules.specs.declared.Lots.{Lots}
@@ -31,11 +31,16 @@ use Rattle.codes.specs.declared.Code.{Code}
 use Rattle.codes.specs.Codes.{codeOf, givenIn, markOf}
 use Rattle.gain.specs.Ranges.{Gained}
 use Rattle.fields.specs.declared.Found.{Found}
+use Rattle.fields.specs.declared.Refusal.{Refusal}
+use Rattle.fields.specs.declared.FigureAt.{FigureAt}
 use Rattle.fields.specs.First.{firstAt}
-use Rattle.book.specs.declared.TermsAt.{TermsAt}
-use Rattle.book.specs.declared.GroupAt.{GroupAt}
-use Rattle.book.specs.Reading.{termsOf}
-use Rattle.book.specs.Group.{groupAt}
+use Rattle.fields.specs.Reading.{refusalIn, figureFrom}
+use Rattle.terms.specs.declared.TermsAt.{TermsAt}
+use Rattle.terms.specs.Terms.{termsOf}
+use Rattle.trades.specs.declared.TradesAt.{TradesAt}
+use Rattle.trades.specs.Trades.{tradesFrom, oldestFrom}
+use Rattle.group.specs.declared.GroupAt.{GroupAt}
+use Rattle.group.specs.Group.{groupAt}
 use Rattle.division.specs.declared.Shares.{Shares}
 use Rattle.division.specs.Shares.{at, sharesOf}
 use Rattle.cascade.specs.declared.Cascade.{Cascade}
@@ -113,10 +118,26 @@ standing-of terms p total = named (standingAt terms p total)
 pub field-at : (book : List ℕ) (place : ℕ) → Determined (λ (r : Found). r ≡ firstAt place (fieldsOf (drop place book)))
 field-at book place = named (firstAt place (fieldsOf (drop place book)))
 
--- book
+pub refusal-in : (f : FigureAt) → Determined (λ (r : Refusal). r ≡ refusalIn f)
+refusal-in f = named (refusalIn f)
+
+pub figure-at : (book : List ℕ) (place tag : ℕ) (form : Form) → Determined (λ (r : FigureAt). r ≡ figureFrom place tag form (fieldsOf (drop place book)))
+figure-at book place tag form = named (figureFrom place tag form (fieldsOf (drop place book)))
+
+-- terms
 pub read-terms : (book : List ℕ) → Determined (λ (r : TermsAt). r ≡ termsOf book)
 read-terms book = named (termsOf book)
 
+-- trades
+pub read-trades : (book : List ℕ) (settlement : Fen) (long : Bool) (first : ℕ) →
+    Determined (λ (r : TradesAt). r ≡ tradesFrom long settlement first 0 (pos 0) (fieldsOf (drop first book)))
+read-trades book settlement long first = named (tradesFrom long settlement first 0 (pos 0) (fieldsOf (drop first book)))
+
+pub oldest-gain : (book : List ℕ) (settlement : Fen) (long : Bool) (first skip : ℕ) →
+    Determined (λ (r : ℤ). r ≡ oldestFrom long settlement skip (fieldsOf (drop first book)))
+oldest-gain book settlement long first skip = named (oldestFrom long settlement skip (fieldsOf (drop first book)))
+
+-- group
 pub read-group : (book : List ℕ) (terms : Terms) (place from : ℕ) →
     Determined (λ (r : GroupAt). ((code : List ℕ) → r ≡ groupAt terms (groupFrom terms (Coded code) place from (fieldsOf (drop from book)))))
 read-group book terms place from r q e f = e [] ∙ sym (f [])

@@ -12,11 +12,11 @@ use Rattle.rules.specs.Fields.{fieldsOf}
 use Rattle.rules.specs.Book.{Coded}
 use Rattle.laws.specs.Groups.{groupFrom}
 use Rattle.fields.specs.Laws.{Stands}
-use Rattle.book.specs.declared.Refusal.{Refusal}
-use Rattle.book.specs.declared.GroupAt.{GroupAt}
-use Rattle.book.specs.declared.GroupAt.the-variants.{Closed}
-use Rattle.book.specs.declared.GroupAt.the-variants.{Refused as NoGroup}
-use Rattle.book.specs.Group.{groupAt}
+use Rattle.fields.specs.declared.Refusal.{Refusal}
+use Rattle.group.specs.declared.GroupAt.{GroupAt}
+use Rattle.group.specs.declared.GroupAt.the-variants.{Closed}
+use Rattle.group.specs.declared.GroupAt.the-variants.{Refused as NoGroup}
+use Rattle.group.specs.Group.{groupAt}
 use Rattle.cascade.specs.declared.Row.{Row}
 use Rattle.writing.specs.Written.{written}
 use Rattle.roll.specs.declared.CodeAt.{CodeAt}

@@ -52,12 +52,12 @@ use Rattle.codes.proofs.Laws.{key-read, none-read, given-keys}
 use Rattle.fields.specs.declared.Found.the-variants.{Short}
 use Rattle.fields.specs.First.{firstAt}
 use Rattle.fields.specs.Laws.{Stands, Nothing, none, cut, nothing}
-use Rattle.book.specs.declared.Refusal.{Refusal}
-use Rattle.book.specs.declared.GroupAt.{GroupAt}
-use Rattle.book.specs.declared.GroupAt.the-variants.{Closed}
-use Rattle.book.specs.declared.GroupAt.the-variants.{Refused as NoGroup}
-use Rattle.book.specs.Reading.{refusal}
-use Rattle.book.specs.Group.{groupAt}
+use Rattle.fields.specs.declared.Refusal.{Refusal}
+use Rattle.group.specs.declared.GroupAt.{GroupAt}
+use Rattle.group.specs.declared.GroupAt.the-variants.{Closed}
+use Rattle.group.specs.declared.GroupAt.the-variants.{Refused as NoGroup}
+use Rattle.fields.specs.Reading.{refusal}
+use Rattle.group.specs.Group.{groupAt}
 use Rattle.cascade.specs.declared.Row.{Row}
 use Rattle.writing.specs.Written.{written}
 use Rattle.roll.specs.declared.Roll.{Roll}

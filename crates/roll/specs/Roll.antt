@@ -18,12 +18,12 @@ use Rattle.laws.specs.Blocks.{blocks}
 use Rattle.codes.specs.declared.Code.{Code}
 use Rattle.codes.specs.declared.Code.the-variants.{Key, Malformed}
 use Rattle.codes.specs.Codes.{codeOf, givenIn}
-use Rattle.book.specs.declared.Refusal.{Refusal}
-use Rattle.book.specs.declared.GroupAt.{GroupAt}
-use Rattle.book.specs.declared.GroupAt.the-variants.{Closed}
-use Rattle.book.specs.declared.GroupAt.the-variants.{Refused as NoGroup}
-use Rattle.book.specs.Reading.{refusal}
-use Rattle.book.specs.Group.{groupAt}
+use Rattle.fields.specs.declared.Refusal.{Refusal}
+use Rattle.group.specs.declared.GroupAt.{GroupAt}
+use Rattle.group.specs.declared.GroupAt.the-variants.{Closed}
+use Rattle.group.specs.declared.GroupAt.the-variants.{Refused as NoGroup}
+use Rattle.fields.specs.Reading.{refusal}
+use Rattle.group.specs.Group.{groupAt}
 use Rattle.cascade.specs.declared.Row.{Row}
 use Rattle.roll.specs.declared.Roll.{Roll}
 use Rattle.roll.specs.declared.CodeAt.{CodeAt}

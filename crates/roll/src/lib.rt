@@ -1,19 +1,20 @@
 // The roll: all customers of a book, or its refusal.
-use book::GroupAt;
-use book::Refusal;
-use book::TermsAt;
 use cascade::Row;
 use codes::Code;
 use fields::Found;
+use fields::Refusal;
+use group::GroupAt;
 use rules::Standing;
 use rules::Terms;
+use terms::TermsAt;
 ghost use mathlib.Core.Path.{_≡_};
 ghost use mathlib.Core.List.{List};
 ghost use Prim.Native.Nat.{ℕ, _-_, _≤_};
 ghost use lib.ListN.{length, take, drop};
 ghost use Rattle.rules.specs.Fields.{fieldsOf};
 ghost use Rattle.codes.specs.Codes.{Marked};
-ghost use Rattle.book.specs.Ranges.{Sound, Short};
+ghost use Rattle.fields.specs.Ranges.{Short};
+ghost use Rattle.terms.specs.Ranges.{Sound};
 ghost use Rattle.roll.specs.Roll.{noRoll, codeAt, customerAt, endAt, rollFrom, rollOf};
 
 // Either a refusal, or number 0 and the customers: how many, their codes in blocks of 12 bytes with their lengths, their keys
@@ -111,7 +112,7 @@ fn customer_at(
     ensures { λ r. ⌜ r ≡ customerAt (now (book .entry)) terms (now (keys .entry)) count at start end ⌝ }
 {
     match code_at(book, keys, marks, count, at, start, end) {
-        CodeAt::Key(key) => match book::read_group(book, terms, at, end) {
+        CodeAt::Key(key) => match group::read_group(book, terms, at, end) {
             GroupAt::Closed {
                 place,
                 standing,
@@ -211,7 +212,7 @@ pub fn read_roll(book: &[u8]) -> Roll
     if rules::LONGEST_BOOK < book.len() {
         return refused(1, 0);
     }
-    match book::read_terms(book) {
+    match terms::read_terms(book) {
         TermsAt::Read { terms, next } => read_customers(book, terms, next),
         TermsAt::Refused(r) => refused(r.number, r.place),
     }

@@ -4,7 +4,7 @@ use Prim.Native.Nat.{_≤_}
 use mathlib.Core.Path.{_≡_, ap, _∙_}
 use native.Mathlib.Omega.{arith}
 use Rattle.cascade.specs.After.{steady-wider}
-use Rattle.book.specs.declared.Refusal.{Refusal}
+use Rattle.fields.specs.declared.Refusal.{Refusal}
 use Rattle.report.specs.declared.Lines.{Lines}
 use Rattle.allotment.proofs.Accepts.{Accepts, accepts, refuses, steady, worked}
 use borrow.Author.Needs.{needs}

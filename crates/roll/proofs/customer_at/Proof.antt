@@ -7,7 +7,7 @@ use Rattle.roll.proofs.customer_at.Statement.{statement}
 use Rattle.roll.proofs.customer_at.Tie as tie
 use Rattle.roll.proofs.customer_at.Reads as reads
 use Rattle.roll.proofs.customer_at.Lts as lts
-use Rattle.book.proofs.read_group.Reads as read-group-reads
+use Rattle.group.proofs.read_group.Reads as read-group-reads
 use Rattle.roll.proofs.code_at.Reads as code-at-reads
 
 code-at-requires : tie.Need-code-at-requires

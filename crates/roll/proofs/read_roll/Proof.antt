@@ -7,17 +7,17 @@ use native.Mathlib.Omega.{arith}
 use lib.ListN.{length}
 use borrow.Author.Tests.{lt-ltb, le-ltb}
 use Rattle.rules.specs.Book.{judge}
-use Rattle.book.specs.declared.TermsAt.{TermsAt}
-use Rattle.book.specs.Reading.{termsOf}
-use Rattle.book.proofs.Terms.{thenWalk, terms-mean}
-use Rattle.book.proofs.Within.{SoundAt, terms-within}
+use Rattle.terms.specs.declared.TermsAt.{TermsAt}
+use Rattle.terms.specs.Terms.{termsOf}
+use Rattle.terms.proofs.Terms.{thenWalk, terms-mean}
+use Rattle.terms.proofs.Within.{SoundAt, terms-within}
 use Rattle.roll.specs.Roll.{rolled, rollOf}
 use borrow.Author.Needs.{needs}
 use Rattle.roll.proofs.read_roll.Statement.{statement}
 use Rattle.roll.proofs.read_roll.Tie as tie
 use Rattle.roll.proofs.read_roll.Reads as reads
 use Rattle.roll.proofs.read_roll.Lts as lts
-use Rattle.book.proofs.read_terms.Reads as read-terms-reads
+use Rattle.terms.proofs.read_terms.Reads as read-terms-reads
 use Rattle.roll.proofs.read_customers.Reads as read-customers-reads
 use Rattle.roll.proofs.refused.Reads as refused-reads
 

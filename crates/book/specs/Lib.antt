@@ -1,4 +1,0 @@
-pub mod Reading
-pub mod Trades
-pub mod Group
-pub mod Ranges

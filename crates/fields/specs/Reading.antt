@@ -1,0 +1,41 @@
+-- One field after the other, as code reads them: the field that is due is there with a good value, or a refusal has its place.
+-- Assumes nothing.
+use Prim.Native.Nat.{ℕ, _+_}
+use mathlib.Core.List.{List, [], _∷_}
+use mathlib.Core.Bool.{cond}
+use lib.ListN.{length, drop}
+use lib.Dec.{eqb}
+use Rattle.rules.specs.declared.Form.{Form}
+use Rattle.rules.specs.declared.Figure.{Figure}
+use Rattle.rules.specs.declared.Figure.the-variants.{Comma, Malformed}
+use Rattle.rules.specs.declared.Figure.the-variants.{Value as Number}
+use Rattle.rules.specs.Figures.{figureOf}
+use Rattle.rules.specs.Fields.{Field, Whole, Cut, fieldsOf}
+use Rattle.fields.specs.declared.Refusal.{Refusal}
+use Rattle.fields.specs.declared.FigureAt.{FigureAt}
+use Rattle.fields.specs.declared.FigureAt.the-variants.{Value}
+use Rattle.fields.specs.declared.FigureAt.the-variants.{Refused as NoFigure}
+
+abbrev pub refusal : ℕ → ℕ → Refusal
+refusal n place = record { number = n; place = place }
+
+abbrev pub refusalIn : FigureAt → Refusal
+refusalIn (Value n next) = refusal 0 0
+refusalIn (NoFigure r) = r
+
+-- 4 and 5
+abbrev pub figureAt : ℕ → ℕ → Figure → FigureAt
+figureAt at next (Number n) = Value n next
+figureAt at next Comma = NoFigure (refusal 4 at)
+figureAt at next Malformed = NoFigure (refusal 5 at)
+
+-- the field with this tag, which begins at `at`, and its figure
+abbrev pub figureFrom : ℕ → ℕ → Form → List Field → FigureAt
+figureFrom at tag form [] = NoFigure (refusal 2 at)
+figureFrom at tag form (Cut ∷ fs) = NoFigure (refusal 2 at)
+figureFrom at tag form (Whole t v ∷ fs) = cond (eqb t tag) (figureAt at (at + 3 + length v) (figureOf form v)) (NoFigure (refusal 3 at))
+
+-- the same in a book
+module _ (s : List ℕ) where
+  abbrev pub figureIn : ℕ → ℕ → Form → FigureAt
+  figureIn at tag form = figureFrom at tag form (fieldsOf (drop at s))

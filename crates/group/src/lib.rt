@@ -1,0 +1,167 @@
+// Reads a customer's group.
+use fields::FigureAt;
+use fields::Refusal;
+use rules::Lots;
+use rules::Position;
+use rules::Standing;
+use rules::Terms;
+use trades::TradesAt;
+ghost use mathlib.Core.Path.{_≡_};
+ghost use mathlib.Core.List.{List};
+ghost use Prim.Native.Nat.{ℕ};
+ghost use lib.ListN.{drop};
+ghost use Rattle.rules.specs.Fields.{fieldsOf};
+ghost use Rattle.rules.specs.Book.{Coded, Trading, overdrawn};
+ghost use Rattle.rules.specs.Standing.{standingAt};
+ghost use Rattle.rules.specs.Cascade.{offeredBy, pendingBy};
+ghost use Rattle.laws.specs.Groups.{groupFrom};
+ghost use Rattle.gain.specs.Ranges.{Ranged};
+ghost use Rattle.fields.specs.Ranges.{Short};
+ghost use Rattle.terms.specs.Ranges.{Sound};
+ghost use Rattle.group.specs.Position.{positionOf};
+ghost use Rattle.group.specs.Group.{started, closedAt, groupAt};
+ghost use Rattle.group.specs.Ranges.{Held};
+
+pub enum PositionAt {
+    Read { position: Position, next: usize },
+    Refused(Refusal),
+}
+
+// A customer's group up to the field that closes it: the customer's standing, and the lots that it offers and has pending.
+pub enum GroupAt {
+    Closed {
+        place: usize,
+        standing: Standing,
+        offered: u32,
+        pending: u32,
+    },
+    Refused(Refusal),
+}
+
+// 8: "Q exceeds K when locked down, or H when locked up"
+fn overdrawn_by(terms: Terms, position: Position) -> bool
+    ensures { λ r. ⌜ r ≡ overdrawn terms position ⌝ }
+{
+    if terms.down {
+        position.long.0 < position.unfilled.0
+    } else {
+        position.short.0 < position.unfilled.0
+    }
+}
+
+// K, H and Q from a place on.
+fn read_position(book: &[u8], terms: Terms, at: usize) -> PositionAt
+    ensures { λ r. ⌜ r ≡ positionOf (now (book .entry)) terms at ⌝ }
+{
+    let k = fields::figure_at(book, at, b'K', figures::HELD);
+    let FigureAt::Value {
+        number: long,
+        next: at_h,
+    } = k
+    else {
+        return PositionAt::Refused(fields::refusal_in(k));
+    };
+    let h = fields::figure_at(book, at_h, b'H', figures::HELD);
+    let FigureAt::Value {
+        number: short,
+        next: at_q,
+    } = h
+    else {
+        return PositionAt::Refused(fields::refusal_in(h));
+    };
+    let q = fields::figure_at(book, at_q, b'Q', figures::HELD);
+    let FigureAt::Value {
+        number: unfilled,
+        next,
+    } = q
+    else {
+        return PositionAt::Refused(fields::refusal_in(q));
+    };
+    let position = Position {
+        long: Lots(long),
+        short: Lots(short),
+        unfilled: Lots(unfilled),
+    };
+    if overdrawn_by(terms, position) {
+        return PositionAt::Refused(Refusal {
+            number: 8,
+            place: at_q,
+        });
+    }
+    PositionAt::Read { position, next }
+}
+
+// "The whole net position is offered."
+fn offered_by(standing: Standing, position: Position) -> u64
+    ensures { λ r. ⌜ r ≡ offeredBy standing position ⌝ }
+{
+    match standing {
+        Standing::Pending => 0,
+        Standing::Tier1 => gain::net_of(position).0,
+        Standing::Tier2 => gain::net_of(position).0,
+        Standing::Tier3 => gain::net_of(position).0,
+        Standing::Neither => 0,
+    }
+}
+
+fn pending_by(standing: Standing, position: Position) -> u64
+    ensures { λ r. ⌜ r ≡ pendingBy standing position ⌝ }
+{
+    match standing {
+        Standing::Pending => gain::counted_pending(position).0,
+        Standing::Tier1 => 0,
+        Standing::Tier2 => 0,
+        Standing::Tier3 => 0,
+        Standing::Neither => 0,
+    }
+}
+
+// The customer of a group that ends at a place, with this position and this total gain.
+fn closed_at(terms: Terms, position: Position, place: usize, total: i64) -> GroupAt
+    requires { ⌜ Ranged terms position total ⌝ }
+    ensures { λ r. ⌜ r ≡ closedAt (standingAt terms position total) position place ⌝ }
+{
+    let standing = gain::standing_of(terms, position, total);
+    let offered = offered_by(standing, position) as u32;
+    let pending = pending_by(standing, position) as u32;
+    GroupAt::Closed {
+        place,
+        standing,
+        offered,
+        pending,
+    }
+}
+
+// A customer's trades and what comes of them, where its position is read; its C is at `place`.
+fn group_of(book: &[u8], terms: Terms, place: usize, position: Position, first: usize) -> GroupAt
+    requires { ⌜ Short (now book) ⌝ ∗ ⌜ Sound terms ⌝ ∗ ⌜ Held position ⌝ }
+    ensures { λ r. ⌜ ((code : List ℕ) → r ≡ groupAt terms (groupFrom terms (Trading (started position code)) place first (fieldsOf (drop first (now (book .entry)))))) ⌝ }
+{
+    let long = gain::net_long(position);
+    match trades::read_trades(book, terms.settlement, long, first) {
+        TradesAt::Closed {
+            place: at,
+            opened,
+            gain,
+        } => {
+            let net = gain::net_of(position);
+            if opened < net.0 {
+                return GroupAt::Refused(Refusal { number: 9, place });
+            }
+            let oldest = trades::oldest_gain(book, terms.settlement, long, first, opened - net.0);
+            closed_at(terms, position, at, gain - oldest)
+        }
+        TradesAt::Refused(r) => GroupAt::Refused(r),
+    }
+}
+
+// A customer's group from the field after its C on, which is at `place`.
+pub fn read_group(book: &[u8], terms: Terms, place: usize, at: usize) -> GroupAt
+    requires { ⌜ Short (now book) ⌝ ∗ ⌜ Sound terms ⌝ }
+    ensures { λ r. ⌜ ((code : List ℕ) → r ≡ groupAt terms (groupFrom terms (Coded code) place at (fieldsOf (drop at (now (book .entry)))))) ⌝ }
+{
+    match read_position(book, terms, at) {
+        PositionAt::Read { position, next } => group_of(book, terms, place, position, next),
+        PositionAt::Refused(r) => GroupAt::Refused(r),
+    }
+}

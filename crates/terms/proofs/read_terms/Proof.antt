@@ -1,0 +1,36 @@
+-- `terms::read_terms` meets its contract: D, and then the other terms.
+-- Assumes nothing.
+use mathlib.Core.Path.{sym, _∙_}
+use Rattle.terms.specs.Terms.{termsOf}
+use borrow.Author.Needs.{needs}
+use Rattle.terms.proofs.read_terms.Statement.{statement}
+use Rattle.terms.proofs.read_terms.Tie as tie
+use Rattle.terms.proofs.read_terms.Reads as reads
+use Rattle.terms.proofs.read_terms.Lts as lts
+use Rattle.terms.proofs.lock_at.Reads as lock-at-reads
+use Rattle.terms.proofs.terms_after.Reads as terms-after-reads
+
+lock-at-requires : tie.Need-lock-at-requires
+lock-at-requires c κs = search needs
+
+enum-known-down : tie.Need-enum-known-down
+enum-known-down c = search needs
+
+terms-after-requires : tie.Need-terms-after-requires
+terms-after-requires c κs = search needs
+
+enum-known-r : tie.Need-enum-known-r
+enum-known-r c = search needs
+
+returns : tie.Need-returns
+unfolding termsOf
+returns c = let x = c .before .before in c .terms-after .ensures ∙ simp (sym (x .before .before .lock-at .ensures) ∙ x .down .given .1)
+
+returns-2 : tie.Need-returns-2
+unfolding termsOf
+returns-2 c = let x = c .before in simp (sym (x .before .before .lock-at .ensures) ∙ x .r .given .1)
+
+pub read-terms-spec : {M : Type 1} → statement M
+read-terms-spec =
+    tie.close
+    (tie.spec lock-at-requires enum-known-down terms-after-requires enum-known-r returns returns-2)

@@ -1,0 +1,72 @@
+-- `terms::terms_after` meets its contract: the definition goes on as the code does, figure by figure, and then with the edges.
+-- Assumes nothing.
+use mathlib.Core.Path.{sym, _∙_}
+use borrow.Author.Needs.{needs}
+use Rattle.terms.proofs.terms_after.Statement.{statement}
+use Rattle.terms.proofs.terms_after.Tie as tie
+use Rattle.terms.proofs.terms_after.Reads as reads
+use Rattle.terms.proofs.terms_after.Lts as lts
+use Rattle.fields.proofs.figure_at.Reads as figure-at-reads
+use Rattle.fields.proofs.refusal_in.Reads as refusal-in-reads
+use Rattle.terms.proofs.edges_after.Reads as edges-after-reads
+
+figure-at-requires : tie.Need-figure-at-requires
+figure-at-requires c κs = search needs
+
+enum-known-s : tie.Need-enum-known-s
+enum-known-s c = search needs
+
+enum-told : tie.Need-enum-told
+enum-told c = search needs
+
+refusal-in-requires : tie.Need-refusal-in-requires
+refusal-in-requires c κs = search needs
+
+returns : tie.Need-returns
+returns c =
+    let t = c .before .enum-told .given .1 in
+    simp (c .refusal-in .ensures, t, sym (c .before .before .before .figure-at .ensures) ∙ t)
+
+figure-at-requires-2 : tie.Need-figure-at-requires-2
+figure-at-requires-2 c κs = search needs
+
+enum-known-l : tie.Need-enum-known-l
+enum-known-l c = search needs
+
+enum-told-2 : tie.Need-enum-told-2
+enum-told-2 c = search needs
+
+refusal-in-requires-2 : tie.Need-refusal-in-requires-2
+refusal-in-requires-2 c κs = search needs
+
+returns-2 : tie.Need-returns-2
+returns-2 c =
+    let xs = c .before .before .before .before .before in let es = sym (xs .before .before .figure-at .ensures) ∙ xs .s .given .1 in
+    let t = c .before .enum-told2 .given .1 in
+    simp (c .refusal-in2 .ensures, t, es, sym (c .before .before .before .figure-at2 .ensures) ∙ t)
+
+edges-after-requires : tie.Need-edges-after-requires
+edges-after-requires c κs = search needs
+
+returns-3 : tie.Need-returns-3
+returns-3 c =
+    let xl = c .before .before in let el = sym (xl .before .before .figure-at2 .ensures) ∙ xl .l .given .1 in
+    let xs = xl .before .before .before .before in let es = sym (xs .before .before .figure-at .ensures) ∙ xs .s .given .1 in
+    c .edges-after .ensures ∙ simp (es, el)
+
+pub terms-after-spec : {M : Type 1} → statement M
+terms-after-spec =
+    tie.close
+    (tie.spec
+    figure-at-requires
+    enum-known-s
+    enum-told
+    refusal-in-requires
+    returns
+    figure-at-requires-2
+    enum-known-l
+    enum-told-2
+    refusal-in-requires-2
+    returns-2
+    edges-after-requires
+    returns-3)

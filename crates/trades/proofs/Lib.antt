@@ -1,0 +1,4 @@
+-- What a run of trades means in the rules, and what the proofs share.
+pub mod Runs
+pub mod Found
+pub mod Sizes

@@ -1,0 +1,16 @@
+-- `trades::is_closing` meets its contract: either letter will do.
+-- Assumes nothing.
+use borrow.Author.Tests.{eq-eqb, ne-eqb}
+use Rattle.trades.proofs.is_closing.Statement.{statement}
+use Rattle.trades.proofs.is_closing.Tie as tie
+use Rattle.trades.proofs.is_closing.Reads as reads
+use Rattle.trades.proofs.is_closing.Lts as lts
+
+returns : tie.Need-returns
+returns c = simp (eq-eqb _ _ (c .if1 .taken))
+
+returns-2 : tie.Need-returns-2
+returns-2 c = simp (ne-eqb _ _ (c .if1 .left))
+
+pub is-closing-spec : {M : Type 1} → statement M
+is-closing-spec = tie.close (tie.spec returns returns-2)

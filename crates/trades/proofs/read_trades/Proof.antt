@@ -1,0 +1,267 @@
+-- `trades::read_trades` meets its contract. The loop's invariant: what is left to read, with the lots and the gain so far, makes the whole;
+-- lots are at most 1,000,000 for each byte passed, and the gain at most the highest price for each lot.
+-- Assumes nothing.
+use borrow.Author.Needs.{needs}
+use borrow.Author.Tests.{eq-eqb, ne-eqb}
+use Prim.Native.Nat.{ℕ, _+_, _-_, _*_, _^_, _≤_, _<_}
+use native.Mathlib.Omega.{arith}
+use mathlib.Core.Path.{_≡_, refl, sym, ap, ap₂, _∙_}
+use mathlib.Core.List.{List}
+use mathlib.Core.Bool.{Bool, true, false, cond, _||_}
+use lib.ListN.{length, take, drop}
+use lib.IntN.{ℤ, pos, natAbs, _+ℤ_}
+use mir.Val.{toZ, ofZ}
+use mir.Syntax.{w64}
+use Rattle.rules.specs.declared.Trade.{Trade}
+use Rattle.rules.specs.declared.Opening.the-variants.{Made}
+use Rattle.rules.specs.Text.{is}
+use Rattle.rules.specs.Figures.{openingOf}
+use Rattle.rules.specs.Fields.{fieldsOf}
+use Rattle.rules.specs.Book.{onSide}
+use Rattle.rules.specs.Standing.{gainOf}
+use Rattle.laws.specs.Figures.{OpeningWithin, opening-within}
+use Rattle.laws.specs.Exact.{Exact, small-fits, of-int, op-fits, of-op, size-add}
+use Rattle.laws.specs.Gains.{lotsOn}
+use Rattle.fields.specs.Laws.{Stands, stands}
+use Rattle.trades.specs.declared.TradesAt.{TradesAt}
+use Rattle.trades.specs.declared.TradesAt.the-variants.{Closed, Refused}
+use Rattle.fields.specs.Reading.{refusal}
+use Rattle.trades.specs.Trades.{opening, tradesFrom}
+use Rattle.trades.proofs.Found.{trades-short, trades-found}
+use Rattle.trades.proofs.Sizes.{not-true, not-false, lots-on-most, sum-fits, sum-is, sum-size}
+use Rattle.trades.proofs.read_trades.Statement.{statement}
+use Rattle.trades.proofs.read_trades.Tie as tie
+use Rattle.trades.proofs.read_trades.Reads as reads
+use Rattle.trades.proofs.read_trades.Lts as lts
+use Rattle.trades.proofs.is_closing.Reads as is-closing-reads
+use Rattle.trades.proofs.is_trade.Reads as is-trade-reads
+use Rattle.trades.proofs.lots_on.Reads as lots-on-reads
+use Rattle.trades.proofs.no_trades.Reads as no-trades-reads
+use Rattle.fields.proofs.field_at.Reads as field-at-reads
+use Rattle.figures.proofs.read_opening.Reads as read-opening-reads
+use Rattle.gain.proofs.gain_of.Reads as gain-of-reads
+
+abbrev Inv-loop : tie.InvT-loop
+Inv-loop book settlement long first at₀ opened₀ gain₀ at opened gain = (opened ≤ at * 1000000) × (natAbs (toZ w64 gain) ≤ 9999999 * opened) × (tradesFrom long settlement first 0 (pos 0) (fieldsOf (drop first book)) ≡ tradesFrom long settlement at opened (toZ w64 gain) (fieldsOf (drop at book)))
+
+abbrev μ-loop : tie.MeasureT-loop
+μ-loop book settlement long first at₀ opened₀ gain₀ at opened gain = length book - at
+
+-- the field of a turn
+module _ (c : tie.After-known-told Inv-loop μ-loop) where
+  abbrev at-loop : tie.At-loop Inv-loop μ-loop
+  at-loop = c .before .before .before .before
+
+  abbrev book : List ℕ
+  book = at-loop .before .before .args .book .now
+
+  abbrev tag : ℕ
+  tag = c .before .tag .given .0 .0
+
+  abbrev start : ℕ
+  start = c .before .tag .given .0 .1 .0
+
+  abbrev end : ℕ
+  end = c .before .tag .given .0 .1 .1 .0
+
+  there : Stands book (at-loop .loop .at) tag start end
+  there = stands book (at-loop .loop .at) _ _ _ (sym (c .before .before .before .field-at .ensures) ∙ c .before .tag .given .1)
+
+  order : start ≤ end
+  order = there .order
+
+  inside : end ≤ length book
+  inside = there .inside
+
+  -- what is left to read begins with it
+  turned :
+      let a = at-loop .before .before .args in
+      let at = at-loop .loop .at in
+      let opened = at-loop .loop .opened in
+      let gain = toZ w64 (at-loop .loop .gain) in
+      tradesFrom (a .long) (a .settlement) (a .first) 0 (pos 0) (fieldsOf (drop (a .first) book))
+      ≡ cond (is "C" tag || is "Z" tag) (Closed at opened gain)
+      (cond (is "B" tag || is "A" tag)
+      (opening at (openingOf (is "B" tag) (take (end - start) (drop start book))) λ x.
+      tradesFrom (a .long) (a .settlement) end (opened + lotsOn (a .long) x) (gain +ℤ gainOf (a .long) (a .settlement) (x .price) (lotsOn (a .long) x)) (fieldsOf (drop end book)))
+      (Refused (refusal 3 at)))
+  turned =
+      let a = at-loop .before .before .args in
+      at-loop .loop .inv .2 ∙ trades-found book (at-loop .loop .at) tag start end there (a .long) (a .settlement) (at-loop .loop .opened) (toZ w64 (at-loop .loop .gain))
+
+  -- the book is short enough for the sums
+  short : end ≤ 60000
+  short = omega (arith, there .inside, at-loop .before .before .pre .0)
+
+-- a trade that was read
+module _ (c : tie.After-lots-on Inv-loop μ-loop) where
+  abbrev opening-read : tie.After-read-opening Inv-loop μ-loop
+  opening-read = c .before .before .before .before
+
+  abbrev field-read : tie.After-known-told Inv-loop μ-loop
+  field-read = opening-read .before .before .before .before .before .before
+
+  abbrev made : Trade
+  made = c .before .before .t .given .0 .0
+
+  is-made : openingOf (is "B" (tag field-read)) (take (end field-read - start field-read) (drop (start field-read) (book field-read))) ≡ Made made
+  is-made = sym (opening-read .read-opening .ensures) ∙ c .before .before .t .given .1
+
+  -- it is counted, and the reading goes on from its end
+  counts :
+      let a = at-loop field-read .before .before .args in
+      let l = at-loop field-read .loop in
+      tradesFrom (a .long) (a .settlement) (a .first) 0 (pos 0) (fieldsOf (drop (a .first) (book field-read)))
+      ≡ tradesFrom (a .long) (a .settlement) (end field-read) (l .opened + lotsOn (a .long) made)
+      (toZ w64 (l .gain) +ℤ gainOf (a .long) (a .settlement) (made .price) (lotsOn (a .long) made))
+      (fieldsOf (drop (end field-read) (book field-read)))
+  counts =
+      let o = opening-read .before .before in
+      let t = o .before in
+      simp (turned field-read, sym (t .before .before .is-closing .ensures) ∙ t .before .if1 .left, sym (t .is-trade .ensures) ∙ not-false _ (o .if2 .left), is-made)
+
+  range : OpeningWithin (is "B" (tag field-read)) made
+  range = opening-within (is "B" (tag field-read)) _ made is-made
+
+  few : c .lots-on .result ≤ 1000000
+  few = omega (arith, c .lots-on .ensures, lots-on-most (at-loop field-read .before .before .args .long) made, range .lots-most)
+
+  bounded : at-loop field-read .loop .opened + c .lots-on .result ≤ 68719476736
+  bounded = omega (arith, few, short field-read, there field-read .begins, there field-read .order, at-loop field-read .loop .inv .0)
+
+loop-holds : tie.Need-loop-holds Inv-loop μ-loop
+loop-holds c = (omega arith, omega arith, refl)
+
+field-at-requires : tie.Need-field-at-requires Inv-loop μ-loop
+field-at-requires c κs = search needs
+
+enum-known-tag : tie.Need-enum-known-tag Inv-loop μ-loop
+enum-known-tag c = search needs
+
+enum-told : tie.Need-enum-told Inv-loop μ-loop
+enum-told c = search needs
+
+no-trades-requires : tie.Need-no-trades-requires Inv-loop μ-loop
+no-trades-requires c κs = search needs
+
+returns : tie.Need-returns Inv-loop μ-loop
+returns c = let f = c .before .before .before in let a = f .before .before .before .args in c .no-trades .ensures ∙ sym (f .before .loop .inv .2 ∙ trades-short _ (fieldsOf (drop (f .before .loop .at) (a .book .now))) (sym (f .field-at .ensures) ∙ c .before .enum-told .given .1) (a .long) (a .settlement) (f .before .loop .opened) (toZ w64 (f .before .loop .gain)))
+
+is-closing-requires : tie.Need-is-closing-requires Inv-loop μ-loop
+is-closing-requires c κs = search needs
+
+returns-2 : tie.Need-returns-2 Inv-loop μ-loop
+returns-2 c = let k = c .before in simp (turned (k .before), sym (k .is-closing .ensures) ∙ c .if1 .taken)
+
+is-trade-requires : tie.Need-is-trade-requires Inv-loop μ-loop
+is-trade-requires c κs = search needs
+
+no-trades-requires-2 : tie.Need-no-trades-requires-2 Inv-loop μ-loop
+no-trades-requires-2 c κs = search needs
+
+returns-3 : tie.Need-returns-3 Inv-loop μ-loop
+returns-3 c = let t = c .before .before in let k = t .before .before in c .no-trades2 .ensures ∙ simp (turned (k .before), sym (k .is-closing .ensures) ∙ t .before .if1 .left, sym (t .is-trade .ensures) ∙ not-true _ (c .before .if2 .taken))
+
+sub-read-opening : tie.Need-sub-read-opening Inv-loop μ-loop
+sub-read-opening c = order (c .before .before .before .before)
+
+part-read-opening-start : tie.Need-part-read-opening-start Inv-loop μ-loop
+part-read-opening-start c = let k = c .before .before .before .before in let l = order k in let m = inside k in search needs
+
+part-read-opening-end : tie.Need-part-read-opening-end Inv-loop μ-loop
+part-read-opening-end c = let k = c .before .before .before .before in let l = order k in let m = inside k in search needs
+
+read-opening-requires : tie.Need-read-opening-requires Inv-loop μ-loop
+read-opening-requires c κs = search needs
+
+enum-known-t : tie.Need-enum-known-t Inv-loop μ-loop
+enum-known-t c = search needs
+
+lots-on-requires : tie.Need-lots-on-requires Inv-loop μ-loop
+lots-on-requires c κs = search needs
+
+add-opened : tie.Need-add-opened Inv-loop μ-loop
+add-opened c = omega (arith, bounded c)
+
+gain-of-requires : tie.Need-gain-of-requires Inv-loop μ-loop
+gain-of-requires c κs = record { settlement = at-loop (field-read c) .before .before .pre .1; price = range c .price-most; lots = omega (arith, few c) }
+
+add-gain : tie.Need-add-gain Inv-loop μ-loop
+add-gain c =
+    let l = at-loop (field-read (c .before)) .loop in
+    sum-fits (l .gain) (c .gain-of .result) (l .opened) (c .before .lots-on .result) (l .inv .1) (c .gain-of .ensures .size) (bounded (c .before))
+
+enum-told-2 : tie.Need-enum-told-2 Inv-loop μ-loop
+enum-told-2 c = search needs
+
+no-trades-requires-3 : tie.Need-no-trades-requires-3 Inv-loop μ-loop
+no-trades-requires-3 c κs = search needs
+
+returns-4 : tie.Need-returns-4 Inv-loop μ-loop
+returns-4 c = let o = c .before .before .before in let t = o .before .before .before in let k = t .before .before in c .no-trades3 .ensures ∙ simp (turned (k .before), sym (k .is-closing .ensures) ∙ t .before .if1 .left, sym (t .is-trade .ensures) ∙ not-false _ (o .before .before .if2 .left), sym (o .read-opening .ensures) ∙ c .before .enum-told2 .given .1)
+
+enum-told-3 : tie.Need-enum-told-3 Inv-loop μ-loop
+enum-told-3 c = search needs
+
+no-trades-requires-4 : tie.Need-no-trades-requires-4 Inv-loop μ-loop
+no-trades-requires-4 c κs = search needs
+
+returns-5 : tie.Need-returns-5 Inv-loop μ-loop
+returns-5 c = let o = c .before .before .before in let t = o .before .before .before in let k = t .before .before in c .no-trades4 .ensures ∙ simp (turned (k .before), sym (k .is-closing .ensures) ∙ t .before .if1 .left, sym (t .is-trade .ensures) ∙ not-false _ (o .before .before .if2 .left), sym (o .read-opening .ensures) ∙ c .before .enum-told3 .given .1)
+
+loop-less : tie.Need-loop-less Inv-loop μ-loop
+loop-less c =
+    let k = field-read (c .before) in
+    omega (arith, there k .begins, there k .order, there k .inside)
+
+loop-again : tie.Need-loop-again Inv-loop μ-loop
+loop-again c =
+    let b = c .before in
+    let k = field-read b in
+    let l = at-loop k .loop in
+    let a = at-loop k .before .before .args in
+    let n = b .lots-on .ensures in
+    let g = c .gain-of .ensures .exact in
+    let e = sum-is (l .gain) (c .gain-of .result) (l .opened) (b .lots-on .result) (l .inv .1) (c .gain-of .ensures .size) (bounded b) in (
+      omega (arith, few b, there k .begins, there k .order, l .inv .0),
+      sum-size (l .gain) (c .gain-of .result) (l .opened) (b .lots-on .result) (l .inv .1) (c .gain-of .ensures .size) (bounded b),
+      counts b
+          ∙ ap₂ (λ (o : ℕ) (z : ℤ). tradesFrom (a .long) (a .settlement) (end k) o z (fieldsOf (drop (end k) (book k))))
+          (ap (λ (x : ℕ). l .opened + x) (sym n))
+          (sym (e ∙ ap (λ (z : ℤ). toZ w64 (l .gain) +ℤ z) (g ∙ ap (gainOf (a .long) (a .settlement) (made b .price)) n))),
+    )
+
+pub read-trades-spec : {M : Type 1} → statement M
+read-trades-spec =
+    tie.close
+    (tie.spec
+    Inv-loop
+    μ-loop
+    loop-holds
+    field-at-requires
+    enum-known-tag
+    enum-told
+    no-trades-requires
+    returns
+    is-closing-requires
+    returns-2
+    is-trade-requires
+    no-trades-requires-2
+    returns-3
+    sub-read-opening
+    part-read-opening-start
+    part-read-opening-end
+    read-opening-requires
+    enum-known-t
+    lots-on-requires
+    add-opened
+    gain-of-requires
+    add-gain
+    enum-told-2
+    no-trades-requires-3
+    returns-4
+    enum-told-3
+    no-trades-requires-4
+    returns-5
+    loop-less
+    loop-again)

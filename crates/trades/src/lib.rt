@@ -1,0 +1,122 @@
+// Goes over a customer's trades.
+use fields::Found;
+use fields::Refusal;
+use rules::Fen;
+use rules::Opening;
+use rules::Trade;
+ghost use mathlib.Core.Path.{_≡_};
+ghost use Prim.Native.Nat.{_≤_, min};
+ghost use mathlib.Core.Bool.{_||_};
+ghost use lib.IntN.{pos};
+ghost use lib.ListN.{drop};
+ghost use Rattle.rules.specs.Text.{is};
+ghost use Rattle.rules.specs.Fields.{fieldsOf};
+ghost use Rattle.laws.specs.Gains.{lotsOn};
+ghost use Rattle.fields.specs.Ranges.{Short};
+ghost use Rattle.trades.specs.Trades.{tradesFrom, oldestFrom};
+
+// A customer's trades up to the field that closes the group: the lots opened on the side of its net position, and their gain.
+pub enum TradesAt {
+    Closed {
+        place: usize,
+        opened: u64,
+        gain: i64,
+    },
+    Refused(Refusal),
+}
+
+// A trade's lots on a side.
+fn lots_on(long: bool, t: Trade) -> u64
+    ensures { λ r. ⌜ r ≡ lotsOn long t ⌝ }
+{
+    if long {
+        if t.bought { t.lots.0 } else { 0 }
+    } else {
+        if t.bought { 0 } else { t.lots.0 }
+    }
+}
+
+fn no_trades(number: u64, place: usize) -> TradesAt
+    ensures { λ r. ⌜ r ≡ TradesAt.Refused (record { number = number; place = place }) ⌝ }
+{
+    TradesAt::Refused(Refusal { number, place })
+}
+
+fn is_trade(tag: u8) -> bool
+    ensures { λ r. ⌜ r ≡ (is "B" tag || is "A" tag) ⌝ }
+{
+    tag == b'B' || tag == b'A'
+}
+
+fn is_closing(tag: u8) -> bool
+    ensures { λ r. ⌜ r ≡ (is "C" tag || is "Z" tag) ⌝ }
+{
+    tag == b'C' || tag == b'Z'
+}
+
+// All trades of a group from a place on: their lots on a side, and the gain of these.
+pub fn read_trades(book: &[u8], settlement: Fen, long: bool, first: usize) -> TradesAt
+    requires { ⌜ Short (now book) ⌝ ∗ ⌜ settlement .0 ≤ 9_999_999 ⌝ }
+    ensures { λ r. ⌜ r ≡ tradesFrom long settlement first 0 (pos 0) (fieldsOf (drop first (now (book .entry)))) ⌝ }
+{
+    let mut at = first;
+    let mut opened: u64 = 0;
+    let mut gain: i64 = 0;
+    loop {
+        let Found::Field { tag, start, end } = fields::field_at(book, at) else {
+            return no_trades(2, at);
+        };
+        if is_closing(tag) {
+            return TradesAt::Closed {
+                place: at,
+                opened,
+                gain,
+            };
+        }
+        if !is_trade(tag) {
+            return no_trades(3, at);
+        }
+        match figures::read_opening(&book[start..end], tag == b'B') {
+            Opening::Made(t) => {
+                let n = lots_on(long, t);
+                opened += n;
+                gain += gain::gain_of(long, settlement, t.price, n);
+            }
+            Opening::Comma => return no_trades(4, at),
+            Opening::Malformed => return no_trades(5, at),
+        }
+        at = end;
+    }
+}
+
+fn least(a: u64, b: u64) -> u64
+    ensures { λ r. ⌜ r ≡ min a b ⌝ }
+{
+    if a < b { a } else { b }
+}
+
+// The gain of the oldest `skip` lots on a side, of the trades from a place on.
+pub fn oldest_gain(book: &[u8], settlement: Fen, long: bool, first: usize, skip: u64) -> i64
+    requires { ⌜ Short (now book) ⌝ ∗ ⌜ settlement .0 ≤ 9_999_999 ⌝ }
+    ensures { λ r. ⌜ r ≡ oldestFrom long settlement skip (fieldsOf (drop first (now (book .entry)))) ⌝ }
+{
+    let mut at = first;
+    let mut left = skip;
+    let mut gain: i64 = 0;
+    while 0 < left {
+        let Found::Field { tag, start, end } = fields::field_at(book, at) else {
+            return gain;
+        };
+        match figures::read_opening(&book[start..end], tag == b'B') {
+            Opening::Made(t) => {
+                let n = least(lots_on(long, t), left);
+                gain += gain::gain_of(long, settlement, t.price, n);
+                left -= n;
+            }
+            Opening::Comma => return gain,
+            Opening::Malformed => return gain,
+        }
+        at = end;
+    }
+    gain
+}
