@@ -7,7 +7,7 @@ use crate::guarded::Lent;
 use crate::product::Answer;
 use crate::program::Program;
 use crate::rearrange::everything_stays;
-use crate::statement::{self, Statement};
+use crate::statement::{Stated, Statement};
 
 /// A room that is enough for every report.
 pub const LARGE: usize = 8192;
@@ -20,9 +20,9 @@ pub enum Check {
     Guards,
     Form,
     BothSides,
-    WithinStake,
+    NoneExceeds,
     TiersInTurn,
-    ResidueLast,
+    ResidueAfterAll,
     Rearranged,
 }
 
@@ -31,17 +31,20 @@ impl Check {
         (Check::Answer, "number, place and length"),
         (Check::Buffer, "every byte of the buffer"),
         (Check::Guards, "guard bytes"),
-        (Check::Form, "the report's form"),
+        (Check::Form, "the report's form, and the book's customers"),
         (
             Check::BothSides,
-            "both sides are offset for the same lots, the total",
+            "1: both sides are offset for the same lots, the total",
         ),
-        (Check::WithinStake, "none is offset for more than its own"),
+        (Check::NoneExceeds, "2: none exceeds its own lots"),
         (
             Check::TiersInTurn,
-            "a tier gives when the earlier ones have given all",
+            "3: a tier gives when the earlier ones have given all",
         ),
-        (Check::ResidueLast, "a residue after all tiers alone"),
+        (
+            Check::ResidueAfterAll,
+            "4: a residue when all tiers have given all",
+        ),
         (
             Check::Rearranged,
             "another order and fewer bystanders change nothing",
@@ -122,7 +125,7 @@ pub fn compare(
     counts: &mut Counts,
 ) -> Result<(), Difference> {
     let accepted = accepted(book);
-    let rooms = rooms(accepted.as_ref(), variety).into_iter();
+    let rooms = rooms(accepted, variety).into_iter();
     let mut want: Vec<Lent> = (rooms.zip(variety..))
         .map(|(room, variety)| Lent::new(room, variety))
         .collect();
@@ -133,12 +136,13 @@ pub fn compare(
         let answer = answers.as_ref().map(|answers| answers[nth]);
         same_call(book, want, got, answer, counts)?;
     }
-    let Some(accepted) = accepted else {
+    let Some(length) = accepted else {
         return Ok(());
     };
-    let statement = facts(&accepted, got[EXACT].room(), counts)?;
-    let stays = everything_stays(program, book, &statement, accepted.length, variety);
-    counts.hold(Check::Rearranged, stays, accepted.call())
+    let call = exact_call(length);
+    let statement = facts(book, got[EXACT].room(), call, counts)?;
+    let stays = everything_stays(program, book, &statement, length, variety);
+    counts.hold(Check::Rearranged, stays, call)
 }
 
 /// One call: the second program is called with a buffer of the same bytes, and all must be the same after it.
@@ -168,44 +172,30 @@ const EXACT: usize = 2;
 
 /// Rooms that matter: for an accepted book none, one byte less than its report, as many, one more, and many; for
 /// a refused one none, some and many.
-fn rooms(accepted: Option<&Accepted>, variety: u64) -> Vec<usize> {
+fn rooms(accepted: Option<usize>, variety: u64) -> Vec<usize> {
     match accepted {
-        Some(&Accepted { length, .. }) => vec![0, length - 1, length, length + 1, LARGE],
+        Some(length) => vec![0, length - 1, length, length + 1, LARGE],
         None => vec![0, 1 + (variety % 300) as usize, LARGE],
     }
 }
 
-/// What the second program has of an accepted book.
-struct Accepted {
-    /// Each customer's counted pending or offered lots.
-    stakes: Vec<u64>,
-    /// The report's.
-    length: usize,
+/// The report's length, where the second program accepts the book.
+fn accepted(book: &[u8]) -> Option<usize> {
+    judge(book).ok().map(|allotment| report::length(&allotment))
 }
 
-impl Accepted {
-    /// The call in a room of the report's size, whose answer is known to be right.
-    fn call(&self) -> Call {
-        let answer = Answer {
-            number: 0,
-            place: 0,
-            length: self.length as u64,
-        };
-        Call {
-            room: self.length,
-            want: answer,
-            got: Some(answer),
-        }
+/// The call of an accepted book in a room of its report's size, whose answer is known to be right.
+fn exact_call(length: usize) -> Call {
+    let answer = Answer {
+        number: 0,
+        place: 0,
+        length: length as u64,
+    };
+    Call {
+        room: length,
+        want: answer,
+        got: Some(answer),
     }
-}
-
-fn accepted(book: &[u8]) -> Option<Accepted> {
-    let allotment = judge(book).ok()?;
-    let customers = allotment.customers.iter();
-    Some(Accepted {
-        stakes: customers.map(|customer| customer.stake.0.into()).collect(),
-        length: report::length(&allotment),
-    })
 }
 
 fn second_answer(book: &[u8], report: &mut [u8]) -> Answer {
@@ -249,33 +239,17 @@ fn same_guards(want: &Lent, got: &Lent) -> Result<(), String> {
     same_bytes(after, got_after).map_err(|told| format!("after the buffer, {told}"))
 }
 
-/// The form of an accepted book's report and the four facts. Answers what the report states.
-fn facts(accepted: &Accepted, report: &[u8], counts: &mut Counts) -> Result<Statement, Difference> {
-    let call = accepted.call();
-    let statement = counts.hold(Check::Form, statement::read(report), call)?;
-    for (check, found) in four_facts(&statement, &accepted.stakes) {
-        counts.hold(check, found, call)?;
-    }
-    Ok(statement)
-}
-
-fn four_facts(statement: &Statement, stakes: &[u64]) -> [(Check, Result<(), String>); 4] {
-    [
-        (
-            Check::BothSides,
-            statement::both_sides_equal_the_total(statement),
-        ),
-        (
-            Check::WithinStake,
-            statement::none_exceeds_its_stake(statement, stakes),
-        ),
-        (
-            Check::TiersInTurn,
-            statement::tiers_give_in_turn(statement, stakes),
-        ),
-        (
-            Check::ResidueLast,
-            statement::residue_only_after_all_tiers(statement, stakes),
-        ),
-    ]
+/// The form of an accepted book's report and the statement's four sentences. Answers what the report states.
+fn facts(
+    book: &[u8],
+    report: &[u8],
+    call: Call,
+    counts: &mut Counts,
+) -> Result<Statement, Difference> {
+    let stated = counts.hold(Check::Form, Stated::read(report, book), call)?;
+    counts.hold(Check::BothSides, stated.both_sides(), call)?;
+    counts.hold(Check::NoneExceeds, stated.none_exceeds(), call)?;
+    counts.hold(Check::TiersInTurn, stated.tiers_in_turn(), call)?;
+    counts.hold(Check::ResidueAfterAll, stated.residue_after_all(), call)?;
+    Ok(stated.report)
 }

@@ -1,8 +1,7 @@
-//! What a report states, read from its bytes alone, and four facts that hold of every accepted book.
-//!
-//! The facts need each customer's stake: its counted pending or its offered lots, 0 for standing N, in book order.
+//! What a report states, read from its bytes alone, and the statement's four sentences (docs/STATEMENT.md), which hold of every
+//! accepted book. They need no more than the report's bytes and the book's own `C`, `K`, `H` and `Q`.
 
-use crate::fields::{fields, value};
+use crate::fields::{fields, groups, value};
 
 /// A report taken apart.
 #[derive(Clone, Debug, PartialEq, Eq)]
@@ -72,77 +71,140 @@ fn number(value: &[u8]) -> Result<u64, String> {
     }
 }
 
-/// Fact 1: lots offset on the pending side equal those on the gaining side, and both the total.
-pub fn both_sides_equal_the_total(statement: &Statement) -> Result<(), String> {
-    let pending = offset_of(statement, b"P");
-    let gaining = offset_of(statement, b"123");
-    let total = statement.total;
-    if pending == total && gaining == total {
-        return Ok(());
+/// What an accepted book says of one customer.
+#[derive(Clone, Debug, PartialEq, Eq)]
+pub struct Held {
+    pub code: Vec<u8>,
+    pub long: u64,
+    pub short: u64,
+    pub unfilled: u64,
+}
+
+impl Held {
+    pub fn net(&self) -> u64 {
+        self.long.abs_diff(self.short)
     }
-    Err(format!(
-        "pending side {pending}, gaining side {gaining}, total {total}"
-    ))
-}
 
-/// Fact 2: nobody is offset for more than its counted pending or offered lots; standing N for nothing.
-pub fn none_exceeds_its_stake(statement: &Statement, stakes: &[u64]) -> Result<(), String> {
-    let mut both = statement.lines.iter().zip(stakes);
-    match both.find(|(line, stake)| line.offset > **stake) {
-        None => Ok(()),
-        Some((line, stake)) => Err(format!(
-            "{} is offset for {} lots and has {stake}",
-            line.code.escape_ascii(),
-            line.offset
-        )),
-    }
-}
-
-/// Fact 3: a tier gives a lot only when every earlier tier has given all.
-pub fn tiers_give_in_turn(statement: &Statement, stakes: &[u64]) -> Result<(), String> {
-    let [first, second, third] = tiers(statement, stakes);
-    if (second.given > 0 && !first.all()) || (third.given > 0 && !(first.all() && second.all())) {
-        return Err(format!("tiers {first:?}, {second:?}, {third:?}"));
-    }
-    Ok(())
-}
-
-/// Fact 4: a residue remains only when all three tiers have given all.
-pub fn residue_only_after_all_tiers(statement: &Statement, stakes: &[u64]) -> Result<(), String> {
-    let tiers = tiers(statement, stakes);
-    if statement.residue > 0 && !tiers.iter().all(Tier::all) {
-        return Err(format!("residue {}, tiers {tiers:?}", statement.residue));
-    }
-    Ok(())
-}
-
-/// The lots of one tier.
-#[derive(Debug)]
-struct Tier {
-    given: u64,
-    offered: u64,
-}
-
-impl Tier {
-    fn all(&self) -> bool {
-        self.given == self.offered
-    }
-}
-
-fn tiers(statement: &Statement, stakes: &[u64]) -> [Tier; 3] {
-    [b"1", b"2", b"3"].map(|standing| {
-        let both = statement.lines.iter().zip(stakes);
-        let members = both.filter(|(line, _)| standing.contains(&line.standing));
-        Tier {
-            given: offset_of(statement, standing),
-            offered: members.map(|(_, stake)| stake).sum(),
+    /// The most that may be offset: counted pending of a customer that is `P`, the whole net position of one in a tier, and
+    /// nothing of anybody else.
+    pub fn stake(&self, standing: u8) -> u64 {
+        match standing {
+            b'P' => self.unfilled.min(self.net()),
+            b'1' | b'2' | b'3' => self.net(),
+            _ => 0,
         }
+    }
+}
+
+/// The customers of an accepted book, in its order: each group's first four fields.
+pub fn held(book: &[u8]) -> Result<Vec<Held>, String> {
+    groups(book)
+        .into_iter()
+        .map(|group| held_in(&book[group]))
+        .collect()
+}
+
+fn held_in(group: &[u8]) -> Result<Held, String> {
+    let fields = fields(group);
+    let parts: Vec<(u8, &[u8])> = (fields.iter())
+        .map(|field| (group[field.start], &group[value(field)]))
+        .collect();
+    let [(b'C', code), (b'K', long), (b'H', short), (b'Q', unfilled), ..] = parts.as_slice() else {
+        return Err("a group begins with C, K, H and Q".to_string());
+    };
+    Ok(Held {
+        code: code.to_vec(),
+        long: number(long)?,
+        short: number(short)?,
+        unfilled: number(unfilled)?,
     })
 }
 
-/// The lots offset of all customers with one of these standings.
-fn offset_of(statement: &Statement, standings: &[u8]) -> u64 {
-    let lines = statement.lines.iter();
-    let members = lines.filter(|line| standings.contains(&line.standing));
-    members.map(|line| line.offset).sum()
+/// A report, and the customers of its book.
+#[derive(Clone, Debug)]
+pub struct Stated {
+    pub report: Statement,
+    pub book: Vec<Held>,
+}
+
+impl Stated {
+    /// Reads both, and insists that the report names the book's customers, each in its place.
+    pub fn read(report: &[u8], book: &[u8]) -> Result<Stated, String> {
+        let (report, book) = (read(report)?, held(book)?);
+        let codes = book.iter().map(|held| &held.code);
+        if report.lines.iter().map(|line| &line.code).eq(codes) {
+            return Ok(Stated { report, book });
+        }
+        Err("the report's customers are not the book's".to_string())
+    }
+
+    /// 1: the lots offset on the pending side equal those on the gaining side, and each side's are the total.
+    pub fn both_sides(&self) -> Result<(), String> {
+        let (pending, gaining) = (self.lots(b"P"), self.lots(b"123"));
+        let total = self.report.total;
+        if pending == gaining && pending == total {
+            return Ok(());
+        }
+        Err(format!(
+            "pending side {pending}, gaining side {gaining}, total {total}"
+        ))
+    }
+
+    /// 2: none exceeds its counted pending or its offered position.
+    pub fn none_exceeds(&self) -> Result<(), String> {
+        match self
+            .customers()
+            .find(|(line, held)| line.offset > held.stake(line.standing))
+        {
+            None => Ok(()),
+            Some((line, held)) => Err(format!(
+                "{} is offset for {} lots and has {}",
+                line.code.escape_ascii(),
+                line.offset,
+                held.stake(line.standing)
+            )),
+        }
+    }
+
+    /// 3: a tier gives a lot only when every earlier tier has given all.
+    pub fn tiers_in_turn(&self) -> Result<(), String> {
+        let second_after_first = self.lots(b"2") == 0 || self.gave_all(b"1");
+        let third_after_both = self.lots(b"3") == 0 || self.gave_all(b"12");
+        if second_after_first && third_after_both {
+            return Ok(());
+        }
+        Err(format!(
+            "tiers give {:?}",
+            [b"1", b"2", b"3"].map(|tier| self.lots(tier))
+        ))
+    }
+
+    /// 4: residue above 0 remains only when all three tiers have given all.
+    pub fn residue_after_all(&self) -> Result<(), String> {
+        if self.report.residue == 0 || self.gave_all(b"123") {
+            return Ok(());
+        }
+        Err(format!(
+            "residue {}, and a tier has lots left",
+            self.report.residue
+        ))
+    }
+
+    fn customers(&self) -> impl Iterator<Item = (&Line, &Held)> {
+        self.report.lines.iter().zip(&self.book)
+    }
+
+    /// The lots of all customers with one of these standings.
+    fn lots(&self, standings: &[u8]) -> u64 {
+        let lines = self.report.lines.iter();
+        let members = lines.filter(|line| standings.contains(&line.standing));
+        members.map(|line| line.offset).sum()
+    }
+
+    /// Each customer of these tiers is offset for its whole net position.
+    fn gave_all(&self, tiers: &[u8]) -> bool {
+        self.customers()
+            .filter(|(line, _)| tiers.contains(&line.standing))
+            .all(|(line, held)| line.offset == held.net())
+    }
 }

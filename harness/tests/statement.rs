@@ -1,27 +1,33 @@
 //! Reports taken apart, and each fact with a statement that breaks it alone.
 
-use harness::statement::{
-    both_sides_equal_the_total, none_exceeds_its_stake, read, residue_only_after_all_tiers,
-    tiers_give_in_turn, Line, Statement,
-};
+use harness::rearrange::rearranged;
+use harness::statement::{held, read, Held, Line, Stated, Statement};
 
 /// Document 01's listing as a report.
 const LISTING: &[u8] = b"T\0\x019R\0\x011C\0\x02W3E\0\x013O\0\x011C\0\x02P2E\0\x01PO\0\x013\
 C\0\x02W1E\0\x011O\0\x013C\0\x02P1E\0\x01PO\0\x016C\0\x02W2E\0\x012O\0\x015";
-/// Its customers' counted pending or offered lots.
-const STAKES: [u64; 5] = [1, 4, 3, 6, 5];
+/// The book of that listing.
+const BOOK: &[u8] = include_bytes!("../../examples/listing.book");
 
 fn listing() -> Statement {
     read(LISTING).expect("a report")
 }
 
-/// Which facts hold, in their order.
-fn facts(statement: &Statement) -> [bool; 4] {
+fn customers() -> Vec<Held> {
+    held(BOOK).expect("an accepted book")
+}
+
+/// Which sentences hold, in their order.
+fn facts(report: &Statement) -> [bool; 4] {
+    let stated = Stated {
+        report: report.clone(),
+        book: customers(),
+    };
     [
-        both_sides_equal_the_total(statement).is_ok(),
-        none_exceeds_its_stake(statement, &STAKES).is_ok(),
-        tiers_give_in_turn(statement, &STAKES).is_ok(),
-        residue_only_after_all_tiers(statement, &STAKES).is_ok(),
+        stated.both_sides().is_ok(),
+        stated.none_exceeds().is_ok(),
+        stated.tiers_in_turn().is_ok(),
+        stated.residue_after_all().is_ok(),
     ]
 }
 
@@ -47,6 +53,38 @@ fn a_report_is_taken_apart() {
     };
     assert_eq!(statement.lines[1], second);
     assert_eq!(statement.lines.len(), 5);
+}
+
+#[test]
+fn a_customers_stake_is_its_own_lots() {
+    let book = customers();
+    let p1 = Held {
+        code: b"P1".to_vec(),
+        long: 8,
+        short: 2,
+        unfilled: 6,
+    };
+    assert_eq!(book[3], p1);
+    let lines = listing().lines;
+    let stakes = book
+        .iter()
+        .zip(&lines)
+        .map(|(held, line)| held.stake(line.standing));
+    assert_eq!(stakes.collect::<Vec<_>>(), [1, 4, 3, 6, 5]);
+    let some = Held { unfilled: 4, ..p1 };
+    assert_eq!(
+        b"P123N".map(|standing| some.stake(standing)),
+        [4, 6, 6, 6, 0]
+    );
+}
+
+#[test]
+fn the_report_names_the_books_customers() {
+    let same = |book: &[u8]| Stated::read(LISTING, book).is_ok();
+    assert!(same(BOOK));
+    // the customers in another order, and the first one left out
+    assert!(!same(&rearranged(BOOK, &[1, 0, 2, 3, 4])));
+    assert!(!same(&rearranged(BOOK, &[1, 2, 3, 4])));
 }
 
 #[test]

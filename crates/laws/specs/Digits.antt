@@ -1,7 +1,9 @@
 -- The digits of a number: its last digit stands behind the digits of a tenth of it, and a number below a power of ten has at most
--- as many digits as the power has noughts. Both follow from one fact: more rounds than the number needs change nothing.
+-- as many digits as the power has noughts. Both follow from one fact: more rounds than the number needs change nothing. And the number
+-- that digits write is the number they are of.
 -- Assumes nothing.
-use Prim.Native.Nat.{ℕ, zero, suc, _+_, _/_, _%_, _^_, _≤_, _<_}
+use Prim.Native.Nat.{ℕ, zero, suc, _+_, _-_, _*_, _/_, _%_, _^_, _≤_, _<_}
+use Prim.Native.Char.{code}
 use mathlib.Core.Path.{_≡_, refl, _∙_}
 use mathlib.Core.List.{List, [], _∷_, _++_}
 use mathlib.Core.Bool.{Bool, true, false}
@@ -9,11 +11,9 @@ use native.Mathlib.Omega.{arith}
 use borrow.Author.Tests.{lt-ltb, le-ltb, ltb-true, ltb-false}
 use lib.Dec.{ltb}
 use lib.ListN.{length, length-append}
+use Rattle.rules.specs.Figures.{numberAfter}
 use Rattle.rules.specs.Report.{digit, digitsBefore, digits}
-
-by-test : {C : Type 0} (b : Bool) → (b ≡ true → C) → (b ≡ false → C) → C
-by-test true f g = f refl
-by-test false f g = g refl
+use Rattle.laws.specs.ByTest.{by-test}
 
 -- the digits that are there already stay behind
 behind : (most n : ℕ) (ds es : List ℕ) → digitsBefore most n (ds ++ es) ≡ digitsBefore most n ds ++ es
@@ -64,3 +64,20 @@ digits-some n =
     by-test (ltb n 10)
     (λ p. simp (digits-one n (ltb-true n 10 p)) (omega arith))
     (λ p. simp (digits-more n (ltb-false n 10 p), length-append) (omega arith))
+
+number-append : (n : ℕ) (ds : List ℕ) (d : ℕ) → numberAfter n (ds ++ d ∷ []) ≡ numberAfter n ds * 10 + (d - code "0")
+number-append n [] d = refl
+number-append n (x ∷ xs) d = number-append (n * 10 + (x - code "0")) xs d
+
+number-below : (most n : ℕ) → n < most → numberAfter 0 (digits n) ≡ n
+number-below zero n h = absurd (omega arith)
+number-below (suc most) n h =
+    by-test (ltb n 10)
+    (λ p. rw (digits-one n (ltb-true n 10 p)) (omega arith))
+    (λ p.
+    rw (digits-more n (ltb-false n 10 p))
+    (omega (arith, ltb-false n 10 p, number-append 0 (digits (n / 10)) (digit (n % 10)), number-below most (n / 10) (omega (arith, ltb-false n 10 p)))))
+
+-- digits are read as the number that they write
+pub number-digits : (n : ℕ) → numberAfter 0 (digits n) ≡ n
+number-digits n = number-below (suc n) n (omega arith)

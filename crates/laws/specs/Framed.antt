@@ -1,7 +1,8 @@
 -- Bytes and their fields. Some bytes stand for some fields where, whatever follows them, those fields come first; a whole field's bytes
 -- stand for that field. And a book's parts put together are the book.
 -- Assumes nothing.
-use Prim.Native.Nat.{ℕ, zero, suc, _+_, _*_, _≤_, _<_}
+use Prim.Native.Nat.{ℕ, zero, suc, _+_, _*_, _/_, _%_, _≤_, _<_}
+use Prim.Native.Char.{Char, code}
 use mathlib.Core.Path.{_≡_, refl, ap, _∙_}
 use mathlib.Core.List.{List, [], _∷_, _++_, map, append-assoc}
 use mathlib.Core.Bool.{Bool, true, false, cond}
@@ -11,7 +12,7 @@ use lib.Dec.{eqb, ltb}
 use borrow.Author.Tests.{ltb-true, ltb-false, le-ltb, eqb-true, eq-eqb, ne-eqb}
 use native.Mathlib.Omega.{arith}
 use Rattle.rules.specs.Text.{is}
-use Rattle.rules.specs.Report.{joined}
+use Rattle.rules.specs.Report.{field, joined}
 use Rattle.rules.specs.Fields.{Field, Whole, Cut, fieldsIn, fieldsOf}
 use Rattle.rules.specs.Rearranged.{Parts, cutIn, together, behind, partsIn, partsOf}
 use Rattle.laws.specs.Fields.{fields-cons}
@@ -54,6 +55,10 @@ field-stands (x ∷ a ∷ b ∷ u) t v e = go (eqb (length u) (a * 256 + b)) ref
               ∙ rw (take-at u rest (a * 256 + b) size, drop-at u rest (a * 256 + b) size, le-ltb (length u) (a * 256 + b) (omega arith)) (ap (λ (f : Field). f ∷ fieldsOf rest) value);
           tag = tag;
         }
+
+-- a field's bytes are read as that field
+pub field-framed : (tag : Char) (v : List ℕ) → Framed (field tag v) (Whole (code tag) v ∷ [])
+field-framed tag v = field-stands (field tag v) (code tag) v (rw (eq-eqb (length v) (length v / 256 * 256 + length v % 256) (omega arith)) refl) .framed
 
 cut-none : (n : ℕ) → cutIn n [] ≡ []
 cut-none zero = refl

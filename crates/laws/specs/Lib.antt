@@ -1,4 +1,5 @@
 -- Theorems about the definitions, a file for each idea, in the order in which they rest on one another.
+pub mod ByTest
 pub mod Sums
 pub mod Indices
 pub mod Filled

@@ -11,6 +11,7 @@ use lib.Seq.{take-suc, take-length, getD-at}
 use lib.Dec.{ltb}
 use borrow.Author.Tests.{ltb-true, ltb-false}
 use Rattle.rules.specs.Division.{sumOf, oneIf}
+use Rattle.laws.specs.ByTest.{by-test}
 
 pub one-le : (b : Bool) → oneIf b ≤ 1
 one-le true = le-refl 1
@@ -104,3 +105,18 @@ module _ {A : Type 0} where
 
   pub sum-index : (f : A → ℕ) (d : A) (l : List A) → sumOf (λ i. f (getD l i d)) (upTo (length l)) ≡ sumOf f l
   sum-index f d l = sym (sum-map f (λ i. getD l i d) (upTo (length l))) ∙ ap (sumOf f) (map-upTo d l)
+
+-- sums over the same indices that are equal, with no summand above the other's: each summand is equal to the other's
+module _ (f g : ℕ → ℕ) where
+  upTo-mono : (n : ℕ) → ((i : ℕ) → i < n → f i ≤ g i) → sumOf f (upTo n) ≤ sumOf g (upTo n)
+  upTo-mono zero h = omega arith
+  upTo-mono (suc n) h = omega (arith, sum-upTo f n, sum-upTo g n, h n (omega arith), upTo-mono n (λ i l. h i (omega arith)))
+
+  pub upTo-tight : (n : ℕ) → ((i : ℕ) → i < n → f i ≤ g i) → sumOf f (upTo n) ≡ sumOf g (upTo n) → (i : ℕ) → i < n → f i ≡ g i
+  upTo-tight zero h e i l = absurd (omega arith)
+  upTo-tight (suc n) h e i l =
+      let few : (j : ℕ) → j < n → f j ≤ g j = λ j m. h j (omega arith) in
+      let last : f n ≡ g n = omega (arith, sum-upTo f n, sum-upTo g n, h n (omega arith), upTo-mono n few) in
+      by-test (ltb i n)
+      (λ q. upTo-tight n few (omega (arith, sum-upTo f n, sum-upTo g n)) i (ltb-true i n q))
+      (λ q. let same : i ≡ n = omega (arith, ltb-false i n q) in ap f same ∙ last ∙ ap g (sym same))

@@ -4,14 +4,14 @@
 use Prim.Native.Nat.{ℕ, _+_, _≤_, _<_}
 use mathlib.Core.Path.{_≡_, refl, ap, _∙_}
 use mathlib.Core.Bool.{cond, true, false}
-use mathlib.Core.List.{List}
+use mathlib.Core.List.{List, [], _∷_, map}
 use native.Mathlib.Omega.{arith}
 use lib.Dec.{eqb}
 use borrow.Author.Tests.{ne-eqb}
 use lib.ListN.{length, getD, length-map}
 use Rattle.rules.specs.declared.Standing.{Standing}
 use Rattle.rules.specs.declared.Standing.the-variants.{Pending, Tier1, Tier2, Tier3, Neither}
-use Rattle.rules.specs.Cascade.{Line, tierOf, offeredIn, after, tier, cascade}
+use Rattle.rules.specs.Cascade.{Line, codeOf, tierOf, offeredIn, after, tier, cascade}
 use Rattle.rules.specs.Rearranged.{nobody}
 use Rattle.laws.specs.Picks.{getD-in, getD-mem}
 use Rattle.laws.specs.Tiers.{gives-at-most}
@@ -100,3 +100,13 @@ module _ (ls : List Line) where
   pub as-many : length (cascade ls .lines) ≡ length ls
   unfolding cascade
   as-many = length-map third (after 3 third) ∙ length-map second (after 2 second) ∙ length-map ls (after 1 ls)
+
+-- everybody keeps its code and its place
+codes-after : (k : ℕ) (all ls : List Line) → map codeOf (map (after k all) ls) ≡ map codeOf ls
+unfolding after
+codes-after k all [] = refl
+codes-after k all (l ∷ ls) = ap (λ (vs : List (List ℕ)). l .code ∷ vs) (codes-after k all ls)
+
+pub codes-cascade : (ls : List Line) → map codeOf (cascade ls .lines) ≡ map codeOf ls
+unfolding cascade
+codes-cascade ls = codes-after 3 (tier 2 (tier 1 ls)) (tier 2 (tier 1 ls)) ∙ codes-after 2 (tier 1 ls) (tier 1 ls) ∙ codes-after 1 ls ls

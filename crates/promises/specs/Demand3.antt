@@ -7,7 +7,6 @@ use mathlib.Core.Path.{_≡_, refl, sym, ap, ap₂, _∙_}
 use mathlib.Core.List.{List, [], _∷_, _++_, map}
 use lib.ListN.{length, getD, drop, length-append, length-map}
 use native.Mathlib.Omega.{arith}
-use Rattle.rules.specs.Figures.{lots}
 use Rattle.rules.specs.Fields.{Field, Whole, fieldsOf}
 use Rattle.rules.specs.Division.{sumOf}
 use Rattle.rules.specs.Book.{Customer, Accepted, judge}
@@ -24,7 +23,7 @@ use Rattle.laws.specs.Accepted.{groups-of-customers, group-begins}
 use Rattle.laws.specs.Rearrange.{length-joined, rearranged-accepted}
 use Rattle.allotment.specs.declared.Answer.{Answer}
 use Rattle.allotment.specs.Answered.{Answered}
-use Rattle.promises.specs.Outcomes.{outcomeOf, Fits, accepted-fits, fits-accepted, fits-report}
+use Rattle.promises.specs.Outcomes.{noCustomer, outcomeOf, Fits, accepted-fits, fits-accepted, fits-report}
 
 -- Book t is accepted with the same room as book s, and says of its customers what s says of those at the indices `is`
 pub record Stays (s t is : List ℕ) (room : ℕ) : Type 0 where
@@ -42,9 +41,6 @@ pub record Parted (s : List ℕ) : Type 0 where
   pub as-many : length (partsOf s .groups) ≡ length (outcomeOf s .lines)
   pub named : (i : ℕ) → i < length (outcomeOf s .lines) →
       (fs : List Field) × (fieldsOf (getD (partsOf s .groups) i []) ≡ Whole (code "C") (getD (outcomeOf s .lines) i nobody .code) ∷ fs)
-
-none : Customer
-none = record { code = []; position = record { long = lots 0; short = lots 0; unfilled = lots 0 }; trades = [] }
 
 -- with fewer customers a report is no longer
 report-shorter : (o : Outcome) (is : List ℕ) → Chosen (o .lines) is → length (report (pickedOf o is)) ≤ length (report o)
@@ -71,11 +67,11 @@ module _ (s : List ℕ) (room : ℕ) (f : Fits s room) where
 
   module _ (is : List ℕ) (c : Chosen (outcome (f .terms) (f .customers) .lines) is) where
     some : List Customer
-    some = picked none (f .customers) is
+    some = picked noCustomer (f .customers) is
 
     outcome-some : outcome (f .terms) some ≡ pickedOf (outcome (f .terms) (f .customers)) is
     unfolding outcome some
-    outcome-some = outcome-chosen (f .terms) (f .customers) none is (chosen-after (map (lineOf (f .terms)) (f .customers)) is c)
+    outcome-some = outcome-chosen (f .terms) (f .customers) noCustomer is (chosen-after (map (lineOf (f .terms)) (f .customers)) is c)
 
     still-fits : Fits (rearranged s is) room
     unfolding some
@@ -83,7 +79,7 @@ module _ (s : List ℕ) (room : ℕ) (f : Fits s room) where
         record {
           terms = f .terms;
           customers = some;
-          judged = rearranged-accepted s (f .terms) (f .customers) (f .judged) is (rw lines-many at (c .below)) (c .once) none;
+          judged = rearranged-accepted s (f .terms) (f .customers) (f .judged) is (rw lines-many at (c .below)) (c .once) noCustomer;
           room-enough = rw outcome-some (omega (arith, report-shorter (outcome (f .terms) (f .customers)) is c, f .room-enough));
         }
 
@@ -123,8 +119,8 @@ accepted-parted s room h =
         (fs : List Field) × (fieldsOf (getD (partsOf s .groups) i []) ≡ Whole (code "C") (getD (outcomeOf s .lines) i nobody .code) ∷ fs)
     named i l =
         let f = accepted-fits s room h in
-        let w = book-within s (f .terms) (f .customers) (f .judged) i none l in
-        let g = group-begins s (f .terms) (f .customers) (f .judged) i none l in
+        let w = book-within s (f .terms) (f .customers) (f .judged) i noCustomer l in
+        let g = group-begins s (f .terms) (f .customers) (f .judged) i noCustomer l in
         (g .0, rw (outcome-is s room f, w .code) (g .1))
 
 -- The same of two calls with the same buffer: r and exit for the book, r′ and exit′ for the book rearranged

@@ -6,3 +6,6 @@ pub mod Demands
 pub mod Demand3
 pub mod Example3
 pub mod Fair
+pub mod Statement
+pub mod Stated
+pub mod Example1
