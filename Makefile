@@ -1,7 +1,7 @@
 # make           build the program and list the sample book
 # make check     all proofs and tests
 # make compare   COUNT generated books from SEED through the product and through the second program
-# make bench     the product's speed and stack beside the second program's, on x86-64
+# make bench     the product's speed and stack beside the second program's; on a machine that is not x86-64, those of its code compiled for it
 # make install   program, header, archive, pkg-config file and manual page below PREFIX; make uninstall takes them away again
 #
 # Building needs the Rattle kit (rt). A packager sets DESTDIR. The product is for x86-64; on another machine the kit's emulator runs it here.
@@ -25,6 +25,7 @@ man1dir = $(PREFIX)/share/man/man1
 
 COUNT = 1000000
 SEED = 1
+BENCH =
 cargo = CARGO_TARGET_DIR=target/cargo cargo run --release --offline --quiet --manifest-path harness/Cargo.toml
 
 .PHONY: sample check compare bench install uninstall
@@ -40,8 +41,10 @@ compare: $(archive)
 	if [ "$$(uname -m)" = x86_64 ]; then $(cargo) --bin compare -- $(COUNT) $(SEED) --folder target; \
 	else harness/emulated/make && $(cargo) --bin compare -- $(COUNT) $(SEED) --folder target --through target/emulated/run; fi
 
+# A machine that is not x86-64 times the product's code compiled for it.
 bench: $(archive)
-	$(cargo) --bin bench
+	if [ "$$(uname -m)" = x86_64 ]; then $(cargo) --bin bench -- $(BENCH); \
+	else harness/native/make && FRUNDAVEL_ARCHIVE=target/native $(cargo) --bin bench -- $(BENCH); fi
 
 $(program): $(sources)
 	$(RT) check allot

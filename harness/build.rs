@@ -1,19 +1,32 @@
-//! Links the product's archive, which `rt staticlib allotment` writes.
+//! Links the product's archive, which `rt staticlib allotment` writes. It is for x86-64; elsewhere src/elsewhere.rs stands in for it, unless
+//! FRUNDAVEL_ARCHIVE names the folder of another (harness/native).
 
-use std::path::Path;
+use std::env;
+use std::path::{Path, PathBuf};
 
 fn main() {
-    // The archive is for x86-64 alone; elsewhere src/elsewhere.rs stands in.
-    if std::env::var("CARGO_CFG_TARGET_ARCH").as_deref() != Ok("x86_64") {
+    println!("cargo:rerun-if-env-changed=FRUNDAVEL_ARCHIVE");
+    println!("cargo:rustc-check-cfg=cfg(linked)");
+    let Some(folder) = folder() else {
         return;
-    }
-    let folder = Path::new(env!("CARGO_MANIFEST_DIR")).join("../target/staticlib");
+    };
     let archive = folder.join("liballotment.a");
     println!("cargo:rerun-if-changed={}", archive.display());
     assert!(
         archive.exists(),
         "no archive to link: run `rt staticlib allotment` first"
     );
+    println!("cargo:rustc-cfg=linked");
     println!("cargo:rustc-link-search=native={}", folder.display());
     println!("cargo:rustc-link-lib=static=allotment");
+}
+
+/// Where the archive stands, if this machine has one.
+fn folder() -> Option<PathBuf> {
+    let top = Path::new(env!("CARGO_MANIFEST_DIR")).join("..");
+    if let Some(named) = env::var_os("FRUNDAVEL_ARCHIVE") {
+        return Some(top.join(named));
+    }
+    let ours = env::var("CARGO_CFG_TARGET_ARCH").as_deref() == Ok("x86_64");
+    ours.then(|| top.join("target/staticlib"))
 }

@@ -10,7 +10,7 @@ pub mod draw;
 pub mod fields;
 pub mod guarded;
 pub mod plain;
-#[cfg_attr(not(target_arch = "x86_64"), path = "elsewhere.rs")]
+#[cfg_attr(not(linked), path = "elsewhere.rs")]
 pub mod product;
 pub mod program;
 pub mod rearrange;

@@ -34,7 +34,7 @@ fn main() -> ExitCode {
             None => Box::new(product::allot),
         }
     };
-    if words.through.is_none() && cfg!(not(target_arch = "x86_64")) {
+    if words.through.is_none() && cfg!(not(linked)) {
         eprintln!(
             "compare: the product is x86-64 and cannot be linked in here; see --through in --help"
         );

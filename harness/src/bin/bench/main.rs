@@ -25,8 +25,10 @@ const BARS: [(&str, f64); 5] = [
     ("one customer, half old", 1.0),
 ];
 const STACK_BAR: usize = 48 * 1024;
-/// Elsewhere the product could only be emulated, and a time of that says nothing.
-const LINKED: bool = cfg!(target_arch = "x86_64");
+/// Where nothing is linked the product could only be emulated, and a time of that says nothing.
+const LINKED: bool = cfg!(linked);
+/// The product is x86-64 code; elsewhere it is its LLVM code, compiled for the machine (harness/native).
+const ITSELF: bool = cfg!(target_arch = "x86_64");
 /// How much more a byte may cost at 60 KB than at 6 KB.
 const GROWTH_BAR: f64 = 1.2;
 
@@ -35,7 +37,7 @@ fn main() -> ExitCode {
     let words: Vec<&str> = words.iter().map(String::as_str).collect();
     let done = match words[..] {
         _ if !LINKED => Err(
-            "the product is an x86-64 archive, and this program is not: nothing is measured".into(),
+            "the product is an x86-64 archive, and this program is not: nothing is measured (see harness/native)".into(),
         ),
         [] => everything(),
         ["instructions"] => instructions::table(),
@@ -64,6 +66,12 @@ fn everything() -> Result<(), String> {
     }
     if !stack::finds_what_is_known() {
         return Err("the measure of the stack does not find what is known".into());
+    }
+    if !ITSELF {
+        println!(
+            "The product's code compiled for {}; the product itself is x86-64",
+            env::consts::ARCH
+        );
     }
     let met = [times(&books), growth(&growing), stacks(&books)];
     if met.contains(&false) {
