@@ -20,6 +20,7 @@ pub enum Check {
     Guards,
     Form,
     BothSides,
+    Residue,
     NoneExceeds,
     TiersInTurn,
     ResidueAfterAll,
@@ -27,7 +28,7 @@ pub enum Check {
 }
 
 impl Check {
-    pub const ALL: [(Check, &'static str); 9] = [
+    pub const ALL: [(Check, &'static str); 10] = [
         (Check::Answer, "number, place and length"),
         (Check::Buffer, "every byte of the buffer"),
         (Check::Guards, "guard bytes"),
@@ -35,6 +36,10 @@ impl Check {
         (
             Check::BothSides,
             "1: both sides are offset for the same lots, the total",
+        ),
+        (
+            Check::Residue,
+            "1: total and residue are all that is pending",
         ),
         (Check::NoneExceeds, "2: none exceeds its own lots"),
         (
@@ -248,6 +253,7 @@ fn facts(
 ) -> Result<Statement, Difference> {
     let stated = counts.hold(Check::Form, Stated::read(report, book), call)?;
     counts.hold(Check::BothSides, stated.both_sides(), call)?;
+    counts.hold(Check::Residue, stated.the_residue(), call)?;
     counts.hold(Check::NoneExceeds, stated.none_exceeds(), call)?;
     counts.hold(Check::TiersInTurn, stated.tiers_in_turn(), call)?;
     counts.hold(Check::ResidueAfterAll, stated.residue_after_all(), call)?;

@@ -2,7 +2,7 @@
 //!
 //! 1. [`guarded`] lends a buffer with guard bytes, [`program`] calls what is tried with it;
 //! 2. [`compare`] holds the answers and every byte against the second program;
-//! 3. [`statement`] takes a report apart and states four facts, [`rearrange`] tries demand 3;
+//! 3. [`statement`] takes a report apart and has the four sentences that hold of it, [`rearrange`] tries demand 3;
 //! 4. [`run`] does so for many books; [`shrink`] and [`plain`] make a book with a difference small and [`text`] prints it.
 
 pub mod compare;

@@ -150,6 +150,19 @@ impl Stated {
         ))
     }
 
+    /// 1: total and residue together are what the pending side has counted.
+    pub fn the_residue(&self) -> Result<(), String> {
+        let pending = self.customers().filter(|(line, _)| line.standing == b'P');
+        let counted: u64 = pending.map(|(line, held)| held.stake(line.standing)).sum();
+        let (total, residue) = (self.report.total, self.report.residue);
+        if total + residue == counted {
+            return Ok(());
+        }
+        Err(format!(
+            "total {total}, residue {residue}, counted pending {counted}"
+        ))
+    }
+
     /// 2: none exceeds its counted pending or its offered position.
     pub fn none_exceeds(&self) -> Result<(), String> {
         match self

@@ -17,7 +17,7 @@ fn customers() -> Vec<Held> {
     held(BOOK).expect("an accepted book")
 }
 
-/// Which sentences hold, in their order.
+/// Which sentences hold, in their order. That total and residue are what is counted is tried by itself.
 fn facts(report: &Statement) -> [bool; 4] {
     let stated = Stated {
         report: report.clone(),
@@ -122,6 +122,20 @@ fn sides_that_are_not_the_total_break_fact_1() {
         facts(&with_offsets([0, 3, 3, 6, 5], 0)),
         [false, true, true, true]
     );
+}
+
+#[test]
+fn a_residue_is_what_is_left_of_the_counted_pending() {
+    let left = |residue| Stated {
+        report: Statement {
+            residue,
+            ..listing()
+        },
+        book: customers(),
+    };
+    assert!(left(1).the_residue().is_ok());
+    assert!(left(0).the_residue().is_err());
+    assert!(left(2).the_residue().is_err());
 }
 
 #[test]

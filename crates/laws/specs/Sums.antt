@@ -106,8 +106,12 @@ module _ {A : Type 0} where
   pub sum-index : (f : A → ℕ) (d : A) (l : List A) → sumOf (λ i. f (getD l i d)) (upTo (length l)) ≡ sumOf f l
   sum-index f d l = sym (sum-map f (λ i. getD l i d) (upTo (length l))) ∙ ap (sumOf f) (map-upTo d l)
 
--- sums over the same indices that are equal, with no summand above the other's: each summand is equal to the other's
+-- sums over the same indices: equal where the summands are; and where the sums are equal, with no summand above the other's, the summands are
 module _ (f g : ℕ → ℕ) where
+  pub upTo-cong : (n : ℕ) → ((i : ℕ) → i < n → f i ≡ g i) → sumOf f (upTo n) ≡ sumOf g (upTo n)
+  upTo-cong zero h = refl
+  upTo-cong (suc n) h = omega (arith, sum-upTo f n, sum-upTo g n, h n (omega arith), upTo-cong n (λ i l. h i (omega arith)))
+
   upTo-mono : (n : ℕ) → ((i : ℕ) → i < n → f i ≤ g i) → sumOf f (upTo n) ≤ sumOf g (upTo n)
   upTo-mono zero h = omega arith
   upTo-mono (suc n) h = omega (arith, sum-upTo f n, sum-upTo g n, h n (omega arith), upTo-mono n (λ i l. h i (omega arith)))

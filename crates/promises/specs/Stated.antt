@@ -18,11 +18,12 @@ use Rattle.rules.specs.declared.Position.{Position}
 use Rattle.rules.specs.declared.Standing.{Standing}
 use Rattle.rules.specs.declared.Standing.the-variants.{Pending, Tier1, Tier2, Tier3, Neither}
 use Rattle.rules.specs.Book.{Customer, Accepted, judge, net}
-use Rattle.rules.specs.Division.{sumOf, oneIf}
-use Rattle.rules.specs.Cascade.{Line, Outcome, codeOf, tierOf, offeredBy, pendingBy, offeredIn, lineOf, after, tier, cascade, outcome}
+use Rattle.rules.specs.Standing.{countedPending}
+use Rattle.rules.specs.Division.{sumOf}
+use Rattle.rules.specs.Cascade.{Line, Outcome, codeOf, tierOf, offeredBy, pendingBy, pendingOf, offeredIn, lineOf, after, tier, cascade, outcome}
 use Rattle.rules.specs.Answer.{answer}
 use Rattle.rules.specs.Rearranged.{nobody}
-use Rattle.laws.specs.Sums.{sum-index, sum-map, sum-cong, upTo-tight}
+use Rattle.laws.specs.Sums.{upTo, sum-index, sum-map, sum-cong, upTo-cong, upTo-tight}
 use Rattle.laws.specs.Sane.{codeIn}
 use Rattle.laws.specs.Picks.{getD-in}
 use Rattle.laws.specs.Offsets.{isPending, closedBy, givenIn}
@@ -33,7 +34,7 @@ use Rattle.rules.specs.Report.{digit, digits, letter, field, joined, reported, 
 use Rattle.laws.specs.ByTest.{by-test}
 use Rattle.laws.specs.Digits.{number-digits}
 use Rattle.laws.specs.Framed.{Framed, framed-append, field-framed}
-use Rattle.promises.specs.Statement.{Entry, noEntry, Told, entriesIn, toldIn, told, entryBytes, toldBytes, stake, letterAt, lotsAt, positionAt, lotsOf, GaveAll, Statement, Stated}
+use Rattle.promises.specs.Statement.{Entry, noEntry, Told, entriesIn, toldIn, told, entryBytes, toldBytes, stake, letterAt, lotsAt, positionAt, lotsOf, pendingAt, GaveAll, Statement, Stated}
 use Rattle.promises.specs.Outcomes.{noCustomer, outcomeOf, Fits, accepted-fits, fits-report}
 use Rattle.promises.specs.Demands.{Reported, demand-2}
 use Rattle.allotment.specs.declared.Answer.{Answer}
@@ -84,6 +85,13 @@ stake-is Tier1 p = omega arith
 stake-is Tier2 p = omega arith
 stake-is Tier3 p = omega arith
 stake-is Neither p = refl
+
+counted-is : (s : Standing) (p : Position) → cond (is "P" (letter s)) (countedPending p) 0 ≡ pendingBy s p
+counted-is Pending p = refl
+counted-is Tier1 p = refl
+counted-is Tier2 p = refl
+counted-is Tier3 p = refl
+counted-is Neither p = refl
 
 pending-letter : (s : Standing) → is "P" (letter s) ≡ isPending s
 pending-letter Pending = refl
@@ -180,6 +188,13 @@ module _ (book : List ℕ) (terms : Terms) (cs : List Customer) (e : judge book 
   unfolding toldOf entryOf
   tier-lots tier k same = sum-map _ entryOf (o .lines) ∙ sum-cong _ _ (o .lines) (λ l m. ap (λ q. cond q (l .offset) 0) (same (l .standing)))
 
+  pending-lots : sumOf (pendingAt cs t) (upTo (length cs)) ≡ sumOf pendingOf (map (lineOf terms) cs)
+  unfolding lineOf
+  pending-lots =
+      upTo-cong (pendingAt cs t) (λ i. pendingOf (start i)) (length cs)
+      (λ i h. ap (λ x. cond (is "P" x) (countedPending (who i .position)) 0) (letter-at i h) ∙ counted-is (start i .standing) (who i .position))
+      ∙ sum-index (λ c. pendingOf (lineOf terms c)) noCustomer cs ∙ sym (sum-map pendingOf (lineOf terms) cs)
+
   -- sentence 2
   at-most : (i : ℕ) → i < length cs → lotsAt t i ≤ stake (letterAt t i) (positionAt cs i)
   unfolding lineOf
@@ -238,6 +253,7 @@ module _ (book : List ℕ) (terms : Terms) (cs : List Customer) (e : judge book 
         same-customers = codes-kept;
         both-sides = omega (arith, closed-lots, given₁, given₂, given₃, b .closed, b .given);
         the-total = closed-lots ∙ b .closed;
+        the-residue = omega (arith, b .residue, pending-lots);
         none-exceeds = at-most;
         second-after-first = λ h. all₁ (b .first (omega (arith, given₂)));
         third-after-both = λ h. (all₁ (b .first (omega (arith, given₃))), all₂ (b .second (omega (arith, given₃))));

@@ -16,6 +16,7 @@ use Rattle.rules.specs.Book.{Customer, Accepted, judge, net}
 use Rattle.rules.specs.Standing.{countedPending}
 use Rattle.rules.specs.Division.{sumOf}
 use Rattle.rules.specs.Report.{digits, field, joined}
+use Rattle.laws.specs.Sums.{upTo}
 use Rattle.promises.specs.Outcomes.{noCustomer}
 
 -- What a report tells of one customer: its code, the letter of its standing and the lots that are offset
@@ -90,6 +91,10 @@ module _ (customers : List Customer) (t : Told) where
   abbrev pub GaveAll : Char → Type 0
   GaveAll tier = (i : ℕ) → i < length customers → letterAt t i ≡ code tier → lotsAt t i ≡ net (positionAt customers i)
 
+  -- the counted pending of the customer at index i, where it is on the pending side
+  abbrev pub pendingAt : ℕ → ℕ
+  pendingAt i = cond (is "P" (letterAt t i)) (countedPending (positionAt customers i)) 0
+
   -- The statement. Its four sentences are those of the request.
   pub record Statement : Type 0 where
     -- The report names the book's customers, each in its place.
@@ -97,6 +102,8 @@ module _ (customers : List Customer) (t : Told) where
     -- 1. "The lots offset on the pending side equal those on the gaining side", and each side's are the report's total.
     pub both-sides : lotsOf t "P" ≡ lotsOf t "1" + lotsOf t "2" + lotsOf t "3"
     pub the-total : lotsOf t "P" ≡ t .total
+    -- Total and residue together are what the pending side has counted: "residue is the counted pending of all P customers less the total".
+    pub the-residue : t .total + t .residue ≡ sumOf pendingAt (upTo (length customers))
     -- 2. "None exceeds its counted pending or its offered position."
     pub none-exceeds : (i : ℕ) → i < length customers → lotsAt t i ≤ stake (letterAt t i) (positionAt customers i)
     -- 3. "A tier gives a lot only when every earlier tier has given all."
