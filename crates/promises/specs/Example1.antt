@@ -10,7 +10,7 @@ use Rattle.rules.specs.Text.{bytes}
 use Rattle.rules.specs.Figures.{figureOf, openingOf}
 use Rattle.rules.specs.Codes.{isCode}
 use Rattle.rules.specs.Fields.{fieldsOf}
-use Rattle.rules.specs.Book.{Customer, within, step, Verdict, Refused, Accepted, judge, net}
+use Rattle.rules.specs.Book.{Customer, within, step, Verdict, Refused, Accepted, judge}
 use Rattle.rules.specs.Standing.{gainFrom, totalGain, standing}
 use Rattle.laws.specs.Sums.{upTo}
 use Rattle.rules.specs.Division.{sumOf, leftOver, rank, shareOf, share}

@@ -1,18 +1,17 @@
 -- The statement of request [1] holds of every accepted book: of the answer's report, and of the bytes that a call leaves in the buffer.
 -- Assumes nothing.
-use Prim.Native.Nat.{ℕ, zero, suc, _+_, _-_, _*_, _/_, _%_, _≤_, _<_}
+use Prim.Native.Nat.{ℕ, _+_, _≤_, _<_}
 use Prim.Native.Char.{Char, code}
 use mathlib.Core.Path.{_≡_, refl, sym, ap, ap₂, _∙_}
-use mathlib.Core.Bool.{Bool, true, false, cond}
+use mathlib.Core.Bool.{true, false, cond}
 use mathlib.Core.List.{List, [], _∷_, _++_, map}
 use lib.ListN.{length, getD, take, drop, length-map}
 use lib.Seq.{take-at}
-use lib.Dec.{eqb, ltb}
-use borrow.Author.Tests.{eqb-true, eq-eqb, ltb-true, ltb-false}
+use lib.Dec.{eqb}
+use borrow.Author.Tests.{eqb-true, eq-eqb}
 use native.Mathlib.Omega.{arith}
 use Rattle.rules.specs.Text.{is}
-use Rattle.rules.specs.Figures.{numberAfter}
-use Rattle.rules.specs.Fields.{Field, Whole, fieldsOf}
+use Rattle.rules.specs.Fields.{Whole, fieldsOf}
 use Rattle.rules.specs.declared.Terms.{Terms}
 use Rattle.rules.specs.declared.Position.{Position}
 use Rattle.rules.specs.declared.Standing.{Standing}
@@ -20,7 +19,7 @@ use Rattle.rules.specs.declared.Standing.the-variants.{Pending, Tier1, Tier2, T
 use Rattle.rules.specs.Book.{Customer, Accepted, judge, net}
 use Rattle.rules.specs.Standing.{countedPending}
 use Rattle.rules.specs.Division.{sumOf}
-use Rattle.rules.specs.Cascade.{Line, Outcome, codeOf, tierOf, offeredBy, pendingBy, pendingOf, offeredIn, lineOf, after, tier, cascade, outcome}
+use Rattle.rules.specs.Cascade.{Line, Outcome, codeOf, tierOf, offeredBy, pendingBy, pendingOf, offeredIn, lineOf, outcome}
 use Rattle.rules.specs.Answer.{answer}
 use Rattle.rules.specs.Rearranged.{nobody}
 use Rattle.laws.specs.Sums.{upTo, sum-index, sum-map, sum-cong, upTo-cong, upTo-tight}
@@ -30,12 +29,12 @@ use Rattle.laws.specs.Offsets.{isPending, closedBy, givenIn}
 use Rattle.laws.specs.Balance.{Balanced}
 use Rattle.laws.specs.Within.{Within, as-many, codes-cascade}
 use Rattle.laws.specs.Lines.{book-balanced, book-within}
-use Rattle.rules.specs.Report.{digit, digits, letter, field, joined, reported, report}
+use Rattle.rules.specs.Report.{digits, letter, field, joined, reported, report}
 use Rattle.laws.specs.ByTest.{by-test}
 use Rattle.laws.specs.Digits.{number-digits}
 use Rattle.laws.specs.Framed.{Framed, framed-append, field-framed}
-use Rattle.promises.specs.Statement.{Entry, noEntry, Told, entriesIn, toldIn, told, entryBytes, toldBytes, stake, letterAt, lotsAt, positionAt, lotsOf, pendingAt, GaveAll, Statement, Stated}
-use Rattle.promises.specs.Outcomes.{noCustomer, outcomeOf, Fits, accepted-fits, fits-report}
+use Rattle.promises.specs.Statement.{Entry, noEntry, Told, entriesIn, told, entryBytes, toldBytes, stake, letterAt, lotsAt, positionAt, lotsOf, pendingAt, GaveAll, Statement, Stated}
+use Rattle.promises.specs.Outcomes.{noCustomer, outcomeOf, accepted-fits, fits-report}
 use Rattle.promises.specs.Demands.{Reported, demand-2}
 use Rattle.allotment.specs.declared.Answer.{Answer}
 use Rattle.allotment.specs.Answered.{Answered}
