@@ -1,32 +1,83 @@
 -- What a book comes to is its answer and its listing.
 -- Assumes nothing.
-use Prim.Native.Nat.{ℕ, _+_, _*_, _≤_, _<_}
-use mathlib.Core.Path.{_≡_, refl, sym, ap, _∙_}
-use mathlib.Core.List.{List, [], _∷_, _++_, map}
+use Prim.Native.Nat.{ℕ, _+_, _≤_, _<_}
+use mathlib.Core.Path.{_≡_, refl, sym, ap, subst, _∙_}
+use mathlib.Core.List.{List}
 use native.Mathlib.Omega.{arith}
 use native.Mathlib.Nat.{zero-add}
 use borrow.Author.Tests.{lt-ltb, le-ltb}
-use lib.ListN.{length, getD, length-append}
+use lib.ListN.{length}
 use Rattle.rules.specs.declared.Terms.{Terms}
 use Rattle.rules.specs.Book.{Customer, Verdict, Refused, Accepted, judge}
-use Rattle.rules.specs.Division.{sumOf}
-use Rattle.rules.specs.Cascade.{Line, pendingOf, outcome}
-use Rattle.rules.specs.Report.{digits, joined, printed, listingOf, listing}
-use Rattle.rules.specs.Answer.{fitted, answerOf, answer, lent}
+use Rattle.rules.specs.Report.{listingOf, listing}
+use Rattle.rules.specs.Answer.{fitted, answerOf, answer}
 use Rattle.rules.specs.Answer.{refused as refused01}
-use Rattle.laws.specs.Sane.{Customers, accepted-sane, refused-above}
+use Rattle.laws.specs.Sane.{accepted-sane, refused-above}
 use Rattle.fields.specs.declared.Refusal.{Refusal}
 use Rattle.fields.specs.Reading.{refusal}
+use Rattle.cascade.specs.Columns.{columns}
+use Rattle.cascade.specs.State.{Steady}
+use Rattle.roll.specs.declared.Roll.{Roll}
+use Rattle.roll.specs.Roll.{Room, Rolled, Held}
 use Rattle.writing.specs.Written.{written, written-front}
-use Rattle.report.specs.declared.Lines.{Lines}
-use Rattle.report.specs.Lines.{lineAt, reportBytes, listingBytes, Ready}
+use Rattle.report.specs.Sheet.{reportBytes, listingBytes, Placed}
+use Rattle.allotment.specs.declared.Closed.{Closed}
 use Rattle.allotment.specs.declared.Worked.{Worked}
 use Rattle.allotment.specs.declared.Answer.{Answer}
-use Rattle.allotment.specs.Worked.{linesAfter, workedOf}
+use Rattle.allotment.specs.Worked.{atFirst, closedOf, sheetOf, Shows, Came}
 use Rattle.allotment.specs.Answered.{Answered}
-use Rattle.allotment.proofs.Shown.{report-is, listing-is, ready}
+use Rattle.allotment.proofs.Start.{start-steady}
+use Rattle.allotment.proofs.Shown.{report-is, listing-is, placed}
+use Rattle.allotment.proofs.Space.{listing-room}
 
-module _ (s : List ℕ) (w : Worked) (e : w ≡ workedOf (judge s)) where
+-- A roll with number 0 is an accepted book's, and any other a refused one's
+module _ (s keys starts standings stakes : List ℕ) (r : Roll) (e : Rolled s (judge s) keys starts standings stakes r) where
+  pub refuses : (w : Worked) → w .refusal ≡ r .refusal → (r .refusal .number ≡ 0 → ⊥) → Came s (judge s) starts standings w
+  refuses w f z = go (judge s) e
+    where
+      go : (v : Verdict) → Rolled s v keys starts standings stakes r → Came s v starts standings w
+      go (Refused n place) j = f ∙ j
+      go (Accepted terms cs) j = absurd (z (ap (λ (x : Refusal). x .number) (j .0)))
+
+  pub record Accepts : Type 0 where
+    pub terms : Terms
+    pub customers : List Customer
+    pub accepted : judge s ≡ Accepted terms customers
+    pub told : r .refusal ≡ refusal 0 0
+    pub held : Held s terms customers keys starts standings stakes (r .count)
+
+  pub accepts : r .refusal .number ≡ 0 → Accepts
+  accepts z = go (judge s) refl e
+    where
+      go : (v : Verdict) → judge s ≡ v → Rolled s v keys starts standings stakes r → Accepts
+      go (Refused n place) j h =
+          absurd (let q : r .refusal .number ≡ n = ap (λ (x : Refusal). x .number) h in let p = refused-above s n place j in omega arith)
+      go (Accepted terms cs) j h = record { terms = terms; customers = cs; accepted = j; told = h .0; held = h .1 }
+
+  module _ (a : Accepts) (room : Room keys starts standings stakes) where
+    pub steady : Steady 0 (columns keys standings stakes (r .count)) atFirst
+    steady = start-steady (a .terms) (accepted-sane s (a .terms) (a .customers) (a .accepted)) (a .held) room
+
+    came : (d : Closed) → d ≡ closedOf (columns keys standings stakes (r .count)) → (f : Refusal) → f ≡ r .refusal →
+        Came s (Accepted (a .terms) (a .customers)) starts standings (record { refusal = f; count = r .count; offset = d .offset; total = d .total; residue = d .residue })
+    came d x f y =
+        let k = accepted-sane s (a .terms) (a .customers) (a .accepted) in
+        rw x (
+          y ∙ a .told,
+          record {
+            placed = placed (a .terms) k (a .held) room;
+            stood = omega (arith, steady .stood);
+            reports = report-is (a .terms) k (a .held);
+            lists = listing-is (a .terms) k (a .held);
+            short = listing-room (a .terms) k (a .held) room;
+          },
+        )
+
+    pub closes : (d : Closed) → d ≡ closedOf (columns keys standings stakes (r .count)) → (f : Refusal) → f ≡ r .refusal →
+        Came s (judge s) starts standings (record { refusal = f; count = r .count; offset = d .offset; total = d .total; residue = d .residue })
+    closes d x f y = rw (a .accepted) (came d x f y)
+
+module _ (s starts standings : List ℕ) (w : Worked) (e : Came s (judge s) starts standings w) where
   -- a number above 0: nothing is written
   pub record Stops : Type 0 where
     pub answers : (room : ℕ) → answer s room ≡ refused01 (w .refusal .number) (w .refusal .place)
@@ -34,45 +85,39 @@ module _ (s : List ℕ) (w : Worked) (e : w ≡ workedOf (judge s)) where
 
   pub stops : (w .refusal .number ≡ 0 → ⊥) → Stops
   unfolding answer listing
-  stops z = go (judge s) refl
+  stops z = go (judge s) refl e
     where
-      go : (v : Verdict) → judge s ≡ v → Stops
-      go (Refused n place) j =
-          let f : w .refusal ≡ refusal n place = ap (λ (x : Worked). x .refusal) (e ∙ ap workedOf j) in
+      go : (v : Verdict) → judge s ≡ v → Came s v starts standings w → Stops
+      go (Refused n place) j f =
           record {
             answers = λ room. ap (answerOf room) j ∙ ap (λ (r : Refusal). refused01 (r .number) (r .place)) (sym f);
             lists = ap listingOf j ∙ ap (λ (r : Refusal). listingOf (Refused (r .number) (r .place))) (sym f);
           }
-      go (Accepted terms cs) j = absurd (z (ap (λ (x : Worked). x .refusal .number) (e ∙ ap workedOf j)))
+      go (Accepted terms cs) j f = absurd (z (ap (λ (x : Refusal). x .number) (f .0)))
 
-  -- number 0: the lines are those of an accepted book
+  -- number 0: the columns show the outcome
   pub record Goes : Type 0 where
-    pub terms : Terms
-    pub customers : List Customer
-    pub sane : Customers customers
-    pub lines : w .lines ≡ linesAfter terms customers
-    pub whole : Ready (w .lines)
-    pub answers : (room : ℕ) → answer s room ≡ fitted room (reportBytes (w .lines))
-    pub lists : listing s ≡ listingBytes (w .lines)
+    pub placed : Placed s starts (w .offset) (w .count)
+    pub stood : w .count ≤ length standings
+    pub short : length (listingBytes (sheetOf s starts standings w)) ≤ 8192
+    pub answers : (room : ℕ) → answer s room ≡ fitted room (reportBytes (sheetOf s starts standings w))
+    pub lists : listing s ≡ listingBytes (sheetOf s starts standings w)
 
   pub goes : w .refusal .number ≡ 0 → Goes
   unfolding answer listing
-  goes z = go (judge s) refl
+  goes z = go (judge s) refl e
     where
-      go : (v : Verdict) → judge s ≡ v → Goes
-      go (Refused n place) j =
-          absurd (let q : w .refusal .number ≡ n = ap (λ (x : Worked). x .refusal .number) (e ∙ ap workedOf j) in let p = refused-above s n place j in omega arith)
-      go (Accepted terms cs) j =
-          let k = accepted-sane s terms cs j in
-          let l : w .lines ≡ linesAfter terms cs = ap (λ (x : Worked). x .lines) (e ∙ ap workedOf j) in
+      go : (v : Verdict) → judge s ≡ v → Came s v starts standings w → Goes
+      go (Refused n place) j f =
+          absurd (let q : w .refusal .number ≡ n = ap (λ (x : Refusal). x .number) f in let p = refused-above s n place j in omega arith)
+      go (Accepted terms cs) j f =
+          let h = f .1 in
           record {
-            terms = terms;
-            customers = cs;
-            sane = k;
-            lines = l;
-            whole = rw l (ready terms cs k);
-            answers = λ room. ap (answerOf room) j ∙ ap (fitted room) (sym (report-is terms cs k) ∙ ap reportBytes (sym l));
-            lists = ap listingOf j ∙ sym (listing-is terms cs k) ∙ ap listingBytes (sym l);
+            placed = h .placed;
+            stood = h .stood;
+            short = h .short;
+            answers = λ room. ap (answerOf room) j ∙ ap (fitted room) (sym (h .reports));
+            lists = ap listingOf j ∙ sym (h .lists);
           }
 
 -- a refusal leaves the buffer as it was

@@ -16,15 +16,16 @@ use Rattle.laws.specs.Sums.{upTo, sum-map}
 use Rattle.laws.specs.Indices.{map-more, sum-bound}
 use Rattle.laws.specs.Digits.{digits-length-10}
 use Rattle.laws.specs.Sane.{Customers}
-use Rattle.cascade.specs.State.{rowAt, linesOf, pendingAt, afterAll, Steady}
-use Rattle.cascade.specs.State.{lineAt as stateLine}
-use Rattle.cascade.specs.After.{steady-all, count-all}
+use Rattle.cascade.specs.Columns.{Columns, columns}
+use Rattle.cascade.specs.State.{afterAll, Steady}
+use Rattle.cascade.specs.After.{steady-all, pending-le}
+use Rattle.roll.specs.Roll.{Held, Room}
 use Rattle.writing.specs.Shown.{joined-append}
 use Rattle.printing.specs.Printed.{printed-length, listedHead, listed-head-length}
-use Rattle.report.specs.declared.Lines.{Lines}
-use Rattle.report.specs.Lines.{codeAt, lineAt, listingBytes, Ready}
-use Rattle.allotment.specs.Worked.{stateOf, linesAfter}
+use Rattle.report.specs.Sheet.{codeAt, lineAt, listingBytes}
+use Rattle.allotment.specs.Worked.{atFirst}
 use Rattle.allotment.proofs.Start.{start-steady}
+use Rattle.allotment.proofs.Shown.{page, placed}
 
 -- n lines of at most b bytes
 joined-most : (f : Line → List ℕ) (g : ℕ → Line) (b n : ℕ) → ((i : ℕ) → i < n → length (f (g i)) ≤ b) → length (joined f (map g (upTo n))) ≤ b * n
@@ -35,35 +36,28 @@ joined-most f g b (suc n) h =
     ap (λ (m : ℕ). joined f (map g (upTo m))) (sym one) ∙ ap (joined f) (map-more g n) ∙ joined-append f (map g (upTo n)) (g n ∷ []) in
     rw e (simp length-append (omega (arith, joined-most f g b n (λ i k. h i (omega arith)), h n (le-refl _))))
 
-module _ (terms : Terms) (cs : List Customer) (k : Customers cs) (r : Ready (linesAfter terms cs)) where
-  steady : Steady 3072000000 (afterAll (stateOf terms cs))
-  steady = steady-all (stateOf terms cs) (start-steady terms cs k)
+module _ {book : List ℕ} (terms : Terms) {cs : List Customer} {keys starts standings stakes : List ℕ} {count : ℕ}
+    (k : Customers cs) (h : Held book terms cs keys starts standings stakes count) (r : Room keys starts standings stakes) where
+  abbrev c : Columns
+  c = columns keys standings stakes count
 
-  owed-most : sumOf pendingOf (linesOf (stateOf terms cs)) ≤ 1024000000
-  unfolding linesOf
-  owed-most =
-      let st = stateOf terms cs in
-      let s = start-steady terms cs k in
-      omega (
-        arith,
-        sum-map pendingOf (stateLine (st .keys) (st .rows)) (upTo (st .count)),
-        sum-bound (pendingAt (st .rows)) 4000000 (st .count) (λ i h. s .each i h .pending),
-        s .few,
-      )
+  first : Steady 0 c atFirst
+  first = start-steady terms k h r
 
-  line-most : (i : ℕ) → i < length cs → length (printed (lineAt (linesAfter terms cs) i)) ≤ 26
-  unfolding linesAfter
-  line-most i h =
-      let l = linesAfter terms cs in
-      let small = steady .each i (rw (count-all (stateOf terms cs)) h) in
-      let d : length (digits (rowAt (l .rows) i .offset)) ≤ 10 = digits-length-10 _ (omega (arith, small .offset)) in
-      let c : length (codeAt l i) ≤ 12 = simp length-take (omega (arith, r .short i h)) in
-      omega (arith, printed-length (lineAt l i))
+  steady : Steady 3072000000 c (afterAll c atFirst)
+  steady = steady-all c atFirst first
 
-  pub listing-room : length (listingBytes (linesAfter terms cs)) ≤ 8192
-  unfolding listingBytes linesAfter
+  line-most : (i : ℕ) → i < count → length (printed (lineAt (page terms k h) i)) ≤ 26
+  line-most i l =
+      let p = placed terms k h r .code i l in
+      let d : length (digits (getD (afterAll c atFirst .offset) i 0)) ≤ 10 = digits-length-10 _ (omega (arith, steady .offset i l)) in
+      let n : length (codeAt book starts i) ≤ 12 = simp length-take (omega (arith, p .short)) in
+      omega (arith, printed-length (lineAt (page terms k h) i))
+
+  pub listing-room : length (listingBytes (page terms k h)) ≤ 8192
+  unfolding listingBytes
   listing-room =
-      let l = linesAfter terms cs in
-      let t : length (digits (l .total)) ≤ 10 = digits-length-10 _ (omega (arith, steady .total)) in
-      let d : length (digits (l .residue)) ≤ 10 = digits-length-10 _ (omega (arith, owed-most)) in
-      simp length-append (omega (arith, listed-head-length (l .total) (l .residue), joined-most printed (lineAt l) 26 (length cs) line-most, k .few))
+      let g = page terms k h in
+      let t : length (digits (g .total)) ≤ 10 = digits-length-10 _ (omega (arith, steady .total)) in
+      let d : length (digits (g .residue)) ≤ 10 = digits-length-10 _ (omega (arith, pending-le c atFirst first)) in
+      simp length-append (omega (arith, listed-head-length (g .total) (g .residue), joined-most printed (lineAt g) 26 count line-most, first .few))

@@ -1,4 +1,4 @@
--- The cascade's state before tier 1 shows the customers' lines, with keys for codes; nobody holds too much for it.
+-- The columns that a roll fills show the customers' lines, with keys for codes; nobody holds too much for the cascade.
 -- Assumes nothing.
 use Prim.Native.Nat.{ℕ, zero, suc, _+_, _-_, _≤_, _<_, min, max}
 use mathlib.Core.Path.{_≡_, refl, sym, ap, ap₂, subst, _∙_}
@@ -6,7 +6,9 @@ use mathlib.Core.List.{List, [], _∷_, _++_, map, map-map, List·Memᴰ, List·
 use mathlib.Core.Bool.{true}
 use mathlib.Core.Logic.{⊎-elim}
 use native.Mathlib.Omega.{arith}
-use lib.ListN.{length, getD, length-map}
+use native.Mathlib.Nat.{sub-zero}
+use lib.ListN.{length, getD, take, length-replicate, getD-replicate}
+use lib.Seq.{getD-take}
 use Rattle.rules.specs.declared.Terms.{Terms}
 use Rattle.rules.specs.declared.Position.{Position}
 use Rattle.rules.specs.declared.Standing.{Standing}
@@ -19,14 +21,15 @@ use Rattle.rules.specs.Cascade.{Line, lineOf, offeredBy, pendingBy}
 use Rattle.laws.specs.Sums.{upTo, map-upTo}
 use Rattle.laws.specs.Indices.{map-below}
 use Rattle.laws.specs.Keys.{keyOf, key-smaller}
-use Rattle.laws.specs.Padded.{padded, padded-getD}
 use Rattle.laws.specs.Recode.{recode, InOrder}
 use Rattle.laws.specs.Picks.{getD-in}
 use Rattle.laws.specs.Sane.{Sane, AllSane, Customers}
-use Rattle.cascade.specs.declared.Row.{Row}
-use Rattle.cascade.specs.State.{rowAt, lineAt, linesOf, Small, Steady}
-use Rattle.roll.specs.Roll.{rowOf, keysOf, rowsOf}
-use Rattle.allotment.specs.Worked.{stateOf}
+use Rattle.laws.specs.All2.{all2-at}
+use Rattle.cascade.specs.Columns.{standingOf, offeredAs, pendingAs, Columns, columns, lineAt, linesOf}
+use Rattle.cascade.specs.State.{Steady}
+use Rattle.roll.specs.Roll.{byteOf, stakeAs, keyIn, standingIn, stakeIn, CodeIn, Held, Room}
+use Rattle.roll.proofs.Named.{code-length}
+use Rattle.allotment.specs.Worked.{atFirst}
 
 -- nobody at all, for places past the last customer
 abbrev pub nobody : Customer
@@ -40,6 +43,43 @@ sane-at [] a i h = absurd (omega arith)
 sane-at (c ∷ cs) a zero h = a .0
 sane-at (c ∷ cs) a (suc i) h = sane-at cs (a .1) i (omega arith)
 
+-- a standing's byte and a stake say what the customer offers and has pending
+standing-back : (s : Standing) → standingOf (byteOf s) ≡ s
+standing-back Pending = refl
+standing-back Tier1 = refl
+standing-back Tier2 = refl
+standing-back Tier3 = refl
+standing-back Neither = refl
+
+offered-back : (s : Standing) (p : Position) → offeredAs s (stakeAs s (offeredBy s p) (pendingBy s p)) ≡ offeredBy s p
+offered-back Pending p = refl
+offered-back Tier1 p = refl
+offered-back Tier2 p = refl
+offered-back Tier3 p = refl
+offered-back Neither p = refl
+
+pending-back : (s : Standing) (p : Position) → pendingAs s (stakeAs s (offeredBy s p) (pendingBy s p)) ≡ pendingBy s p
+pending-back Pending p = refl
+pending-back Tier1 p = refl
+pending-back Tier2 p = refl
+pending-back Tier3 p = refl
+pending-back Neither p = refl
+
+stake-le : (s : Standing) {c : Customer} → Sane c → stakeAs s (offeredBy s (c .position)) (pendingBy s (c .position)) ≤ 4000000
+stake-le Pending w = omega (arith, w .long, w .short)
+stake-le Tier1 w = omega (arith, w .long, w .short)
+stake-le Tier2 w = omega (arith, w .long, w .short)
+stake-le Tier3 w = omega (arith, w .long, w .short)
+stake-le Neither w = omega arith
+
+-- a place of a column
+column-at : (f : Customer → ℕ) (cs : List Customer) (a : List ℕ) {count : ℕ} → count ≡ length cs → take count a ≡ map f cs → (i : ℕ) → i < count → getD a i 0 ≡ f (at cs i)
+column-at f cs a {count} n e i h =
+    sym (getD-take count a i 0 h) ∙ ap (λ (l : List ℕ). getD l i 0) e ∙ getD-in f cs i nobody 0 (omega arith)
+
+zero-at : (i : ℕ) → i < 256 → getD (atFirst .offset) i 0 ≡ 0
+zero-at i h = getD-replicate {A = ℕ} 256 i 0 0 h
+
 module _ (terms : Terms) where
   line-coded : (cs : List Customer) → AllSane cs → (l : Line) → List·Memᴰ l (map (lineOf terms) cs) → isCode (l .code) ≡ true
   unfolding lineOf
@@ -51,40 +91,73 @@ module _ (terms : Terms) where
   pub in-order : (cs : List Customer) → AllSane cs → InOrder keyOf (map (lineOf terms) cs)
   in-order cs a l m p q = key-smaller (l .code) (m .code) (line-coded cs a l p) (line-coded cs a m q)
 
-  module _ (cs : List Customer) where
-    row-at : (i : ℕ) → i < length cs → rowAt (rowsOf terms cs) i ≡ rowOf terms (at cs i)
-    row-at i h = padded-getD 256 _ _ (map (rowOf terms) cs) i (rw (length-map cs (rowOf terms)) h) ∙ getD-in (rowOf terms) cs i nobody _ h
+  module _ {book : List ℕ} {cs : List Customer} {keys starts standings stakes : List ℕ} {count : ℕ}
+      (k : Customers cs) (h : Held book terms cs keys starts standings stakes count) where
+    abbrev cols : Columns
+    cols = columns keys standings stakes count
 
-    key-at : (i : ℕ) → i < length cs → getD (keysOf cs) i 0 ≡ keyOf (at cs i .code)
-    key-at i h = padded-getD 256 0 0 (map (λ c. keyOf (c .code)) cs) i (rw (length-map cs (λ c. keyOf (c .code))) h) ∙ getD-in (λ c. keyOf (c .code)) cs i nobody 0 h
+    pub few : count ≤ 256
+    few = omega (arith, h .counted, k .few)
 
-    line-at : (i : ℕ) → i < length cs → lineAt (keysOf cs) (rowsOf terms cs) i ≡ recode keyOf (lineOf terms (at cs i))
-    unfolding lineOf rowOf
-    line-at i h =
-        let k = key-at i h in
-        let r = row-at i h in
-        λ j. record { code = k j ∷ []; standing = r j .standing; offered = r j .offered; pending = r j .pending; offset = r j .offset }
+    standing-at : (i : ℕ) → i < count → standingOf (getD standings i 0) ≡ standing terms (at cs i)
+    unfolding standingIn
+    standing-at i l = ap standingOf (column-at (standingIn terms) cs standings (h .counted) (h .stood) i l) ∙ standing-back (standing terms (at cs i))
 
-    pub lines-are : linesOf (stateOf terms cs) ≡ map (recode keyOf) (map (lineOf terms) cs)
+    stake-at : (i : ℕ) → i < count → getD stakes i 0 ≡ stakeIn terms (at cs i)
+    stake-at i l = column-at (stakeIn terms) cs stakes (h .counted) (h .staked) i l
+
+    line-at : (i : ℕ) → i < count → lineAt cols (atFirst .offset) i ≡ recode keyOf (lineOf terms (at cs i))
+    unfolding lineOf stakeIn
+    line-at i l =
+        let c = at cs i in
+        let e = column-at keyIn cs keys (h .counted) (h .keyed) i l in
+        let s = standing-at i l in
+        let t = stake-at i l in
+        let z = zero-at i (omega (arith, few)) in
+        (λ j. record {
+          code = e j ∷ [];
+          standing = s j;
+          offered = offeredAs (s j) (t j);
+          pending = pendingAs (s j) (t j) - z j;
+          offset = z j;
+        })
+        ∙ (λ j. record {
+          code = keyOf (c .code) ∷ [];
+          standing = standing terms c;
+          offered = offered-back (standing terms c) (c .position) j;
+          pending = (sub-zero _ ∙ pending-back (standing terms c) (c .position)) j;
+          offset = 0;
+        })
+
+    pub lines-are : linesOf cols (atFirst .offset) ≡ map (recode keyOf) (map (lineOf terms) cs)
     unfolding linesOf
     lines-are =
-        map-below (lineAt (keysOf cs) (rowsOf terms cs)) (λ i. recode keyOf (lineOf terms (at cs i))) (length cs) line-at
+        map-below (lineAt cols (atFirst .offset)) (λ i. recode keyOf (lineOf terms (at cs i))) count line-at
+        ∙ ap (λ (n : ℕ). map (λ i. recode keyOf (lineOf terms (at cs i))) (upTo n)) (h .counted)
         ∙ sym (map-map (λ c. recode keyOf (lineOf terms c)) (at cs) (upTo (length cs)))
         ∙ ap (map (λ c. recode keyOf (lineOf terms c))) (map-upTo nobody cs)
         ∙ sym (map-map (recode keyOf) (lineOf terms) cs)
 
-    pub start-steady : Customers cs → Steady 0 (stateOf terms cs)
-    unfolding rowOf
-    start-steady k =
+    pub start-steady : Room keys starts standings stakes → Steady 0 cols atFirst
+    unfolding stakeIn
+    start-steady r =
         record {
-          few = k .few;
-          each = λ i h. rw (row-at i h) (small (standing terms (at cs i)) (sane-at cs (k .all) i h));
+          few = few;
+          keyed = omega (arith, few, r .for-keys);
+          stood = omega (arith, few, r .for-standings);
+          staked = omega (arith, few, r .for-stakes);
+          wide = omega (arith, few, length-replicate {A = ℕ} 256 0);
+          each = λ i l. record {
+            within = λ e. omega (arith, zero-at i (omega (arith, few)));
+            small = omega (arith, stake-at i l, stake-le (standing terms (at cs i)) (sane-at cs (k .all) i (omega (arith, h .counted))));
+          };
+          offset = λ i l. omega (arith, zero-at i (omega (arith, few)));
           total = omega arith;
         }
-      where
-        small : {c : Customer} (s : Standing) → Sane c → Small 0 (record { standing = s; offered = offeredBy s (c .position); pending = pendingBy s (c .position); offset = 0 })
-        small Pending w = record { offered = omega arith; pending = omega (arith, w .long, w .short); offset = omega arith }
-        small Tier1 w = record { offered = omega (arith, w .long, w .short); pending = omega arith; offset = omega arith }
-        small Tier2 w = record { offered = omega (arith, w .long, w .short); pending = omega arith; offset = omega arith }
-        small Tier3 w = record { offered = omega (arith, w .long, w .short); pending = omega arith; offset = omega arith }
-        small Neither w = record { offered = omega arith; pending = omega arith; offset = omega arith }
+
+    pub code-in : (i : ℕ) → i < count → CodeIn book (getD starts i 0) (at cs i)
+    code-in i l =
+        subst (λ (n : ℕ). CodeIn book n (at cs i)) (getD-take count starts i 0 l) (all2-at (CodeIn book) 0 nobody (take count starts) cs (h .coded) i (omega (arith, h .counted)))
+
+    pub code-short : (i : ℕ) → i < count → length (at cs i .code) ≤ 12
+    code-short i l = code-length (at cs i .code) (sane-at cs (k .all) i (omega (arith, h .counted)) .code)

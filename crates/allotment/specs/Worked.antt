@@ -1,39 +1,46 @@
--- What a book comes to, in arrays: the roll, run through the cascade.
+-- What a book comes to: the columns that its roll fills, run through the cascade, show its outcome.
 -- Assumes nothing.
-use Prim.Native.Nat.{ℕ, _-_}
-use mathlib.Core.List.{List, []}
+use Prim.Native.Nat.{ℕ, _-_, _≤_}
+use mathlib.Core.Path.{_≡_}
+use mathlib.Core.List.{List}
 use lib.ListN.{length, replicate}
 use Rattle.rules.specs.declared.Terms.{Terms}
 use Rattle.rules.specs.Division.{sumOf}
 use Rattle.rules.specs.Book.{Customer, Verdict, Refused, Accepted}
-use Rattle.rules.specs.Cascade.{pendingOf}
+use Rattle.rules.specs.Cascade.{pendingOf, outcome}
+use Rattle.rules.specs.Report.{report, listed}
 use Rattle.fields.specs.Reading.{refusal}
 use Rattle.cascade.specs.declared.Cascade.{Cascade}
-use Rattle.cascade.specs.State.{linesOf, afterAll}
-use Rattle.roll.specs.Roll.{blank, keysOf, sizesOf, codesOf, rowsOf}
-use Rattle.report.specs.declared.Lines.{Lines}
+use Rattle.cascade.specs.Columns.{Columns, linesOf}
+use Rattle.cascade.specs.State.{afterAll}
+use Rattle.report.specs.Sheet.{Sheet, sheet, reportBytes, listingBytes, Placed}
+use Rattle.allotment.specs.declared.Closed.{Closed}
 use Rattle.allotment.specs.declared.Worked.{Worked}
 
 -- the cascade's state before tier 1
-abbrev pub stateOf : Terms → List Customer → Cascade
-stateOf terms cs = record { count = length cs; keys = keysOf cs; rows = rowsOf terms cs; total = 0 }
+abbrev pub atFirst : Cascade
+atFirst = record { offset = replicate 256 0; total = 0 }
 
--- and the lines after tier 3
-unfoldable pub linesAfter : Terms → List Customer → Lines
-linesAfter terms cs =
-    let after = afterAll (stateOf terms cs) in
+-- what it leaves after tier 3
+abbrev pub closedOf : Columns → Closed
+closedOf c =
     record {
-      count = length cs;
-      sizes = sizesOf cs;
-      codes = codesOf cs;
-      rows = after .rows;
-      total = after .total;
-      residue = sumOf pendingOf (linesOf (stateOf terms cs)) - after .total;
+      offset = afterAll c atFirst .offset;
+      total = afterAll c atFirst .total;
+      residue = sumOf pendingOf (linesOf c (atFirst .offset)) - afterAll c atFirst .total;
     }
 
-abbrev pub noLines : Lines
-noLines = record { count = 0; sizes = replicate 256 0; codes = replicate 3072 0; rows = replicate 256 blank; total = 0; residue = 0 }
+abbrev pub sheetOf : List ℕ → List ℕ → List ℕ → Worked → Sheet
+sheetOf book starts standings r = sheet book starts standings (r .offset) (r .count) (r .total) (r .residue)
 
-abbrev pub workedOf : Verdict → Worked
-workedOf (Refused n place) = record { refusal = refusal n place; lines = noLines }
-workedOf (Accepted terms cs) = record { refusal = refusal 0 0; lines = linesAfter terms cs }
+-- the columns and the book show an outcome
+pub record Shows (book : List ℕ) (terms : Terms) (cs : List Customer) (starts standings : List ℕ) (r : Worked) : Type 0 where
+  pub placed : Placed book starts (r .offset) (r .count)
+  pub stood : r .count ≤ length standings
+  pub reports : reportBytes (sheetOf book starts standings r) ≡ report (outcome terms cs)
+  pub lists : listingBytes (sheetOf book starts standings r) ≡ listed (outcome terms cs)
+  pub short : length (listingBytes (sheetOf book starts standings r)) ≤ 8192
+
+abbrev pub Came : List ℕ → Verdict → List ℕ → List ℕ → Worked → Type 0
+Came book (Refused n place) starts standings r = r .refusal ≡ refusal n place
+Came book (Accepted terms cs) starts standings r = (r .refusal ≡ refusal 0 0) × Shows book terms cs starts standings r

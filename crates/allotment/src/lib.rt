@@ -1,31 +1,33 @@
 // The call: a book and a lent buffer in; a number, a place and a length out.
 use cascade::Cascade;
-use cascade::Row;
 use fields::Refusal;
-use report::Lines;
-use rules::Standing;
 ghost use mathlib.Core.Path.{_≡_};
 ghost use Prim.Native.Nat.{_-_, _≤_};
 ghost use lib.ListN.{length};
 ghost use Rattle.rules.specs.Book.{judge};
 ghost use Rattle.rules.specs.Answer.{fitted, answer};
 ghost use Rattle.rules.specs.Report.{listing};
-ghost use Rattle.report.specs.Lines.{reportBytes, Ready};
+ghost use Rattle.cascade.specs.Columns.{columns};
+ghost use Rattle.cascade.specs.State.{Steady};
+ghost use Rattle.roll.specs.Roll.{Room};
+ghost use Rattle.report.specs.Sheet.{sheet, reportBytes, Placed};
 ghost use Rattle.allotment.specs.Answered.{Answered, Listed};
-ghost use Rattle.allotment.specs.Worked.{noLines, workedOf};
+ghost use Rattle.allotment.specs.Worked.{atFirst, closedOf, Came};
 
-// No customer's row: its bytes are all 0, so that many are set at once.
-const BLANK: Row = Row {
-    standing: Standing::Pending,
-    offered: 0,
-    pending: 0,
-    offset: 0,
-};
+// What the cascade leaves: each customer's offset, the total and the residue.
+pub struct Closed {
+    pub offset: [u32; 256],
+    pub total: u64,
+    pub residue: u64,
+}
 
-// What a book comes to: a refusal, or number 0 and the lines of its report.
+// What a book comes to: a refusal, or number 0 and what its customers have offset.
 pub struct Worked {
     pub refusal: Refusal,
-    pub lines: Lines,
+    pub count: usize,
+    pub offset: [u32; 256],
+    pub total: u64,
+    pub residue: u64,
 }
 
 // `owed` less `total`, and nothing where that is more.
@@ -35,56 +37,57 @@ fn less(owed: u64, total: u64) -> u64
     if total < owed { owed - total } else { 0 }
 }
 
-fn no_lines() -> Lines
-    ensures { λ r. ⌜ r ≡ noLines ⌝ }
+// The cascade over the columns.
+fn close(keys: &[u64], standings: &[u8], stakes: &[u32], count: usize) -> Closed
+    requires { ⌜ Steady 0 (columns (now keys) (now standings) (now stakes) count) atFirst ⌝ }
+    ensures { λ r. ⌜ r ≡ closedOf (columns (now (keys .entry)) (now (standings .entry)) (now (stakes .entry)) count) ⌝ }
 {
-    Lines {
-        count: 0,
-        sizes: [0u8; 256],
-        codes: [0u8; 3072],
-        rows: [BLANK; 256],
+    let owed = cascade::owed(standings, stakes, count);
+    let start = Cascade {
+        offset: [0u32; 256],
         total: 0,
-        residue: 0,
+    };
+    let end = start.run(keys, standings, stakes, count, owed);
+    let total = end.total;
+    let offset = end.offset;
+    Closed {
+        offset: offset,
+        total: total,
+        residue: less(owed, total),
     }
 }
 
-// What a book comes to: the roll, run through the cascade.
-pub fn work_out(book: &[u8]) -> Worked
-    ensures { λ r. ⌜ r ≡ workedOf (judge (now (book .entry))) ⌝ }
+// What a book comes to: its roll in the columns, run through the cascade.
+fn work_out(
+    book: &[u8],
+    keys: &mut [u64],
+    starts: &mut [u16],
+    standings: &mut [u8],
+    stakes: &mut [u32],
+) -> Worked
+    requires { ⌜ Room (now keys) (now starts) (now standings) (now stakes) ⌝ }
+    ensures { λ r. ⌜ Came (now (book .entry)) (judge (now (book .entry))) (now (starts .exit)) (now (standings .exit)) r ⌝ }
 {
-    let roll = roll::read_roll(book);
+    let roll = roll::read_roll(book, keys, starts, standings, stakes);
     let refusal = roll.refusal;
+    let count = roll.count;
     if refusal.number != 0 {
         return Worked {
-            refusal,
-            lines: no_lines(),
+            refusal: refusal,
+            count: 0,
+            offset: [0u32; 256],
+            total: 0,
+            residue: 0,
         };
     }
-    let count = roll.count;
-    let keys = roll.keys;
-    let rows = roll.rows;
-    let sizes = roll.sizes;
-    let codes = roll.codes;
-    let start = Cascade {
-        count,
-        keys,
-        rows,
-        total: 0,
-    };
-    let owed = start.owed();
-    let end = start.run();
-    let total = end.total;
-    let after = end.rows;
+    let closed = close(keys, standings, stakes, count);
+    let offset = closed.offset;
     Worked {
-        refusal,
-        lines: Lines {
-            count,
-            sizes,
-            codes,
-            rows: after,
-            total,
-            residue: less(owed, total),
-        },
+        refusal: refusal,
+        count: count,
+        offset: offset,
+        total: closed.total,
+        residue: closed.residue,
     }
 }
 
@@ -98,11 +101,20 @@ pub struct Answer {
 }
 
 // 11, or the report at the front of the lent buffer.
-fn report_lines(lines: Lines, report: &mut [u8]) -> Answer
-    requires { ⌜ Ready lines ⌝ }
-    ensures { λ r. ⌜ Answered (fitted (length (now (report .entry))) (reportBytes lines)) r (now (report .entry)) (now (report .exit)) ⌝ }
+fn report_lines(
+    book: &[u8],
+    starts: &[u16],
+    standings: &[u8],
+    offset: &[u32],
+    count: usize,
+    total: u64,
+    residue: u64,
+    report: &mut [u8],
+) -> Answer
+    requires { ⌜ Placed (now book) (now starts) (now offset) count ⌝ ∗ ⌜ count ≤ length (now standings) ⌝ }
+    ensures { λ r. ⌜ Answered (fitted (length (now (report .entry))) (reportBytes (sheet (now (book .entry)) (now (starts .entry)) (now (standings .entry)) (now (offset .entry)) count total residue))) r (now (report .entry)) (now (report .exit)) ⌝ }
 {
-    let needed = report::report_length(lines);
+    let needed = report::report_length(book, starts, offset, count, total, residue);
     if report.len() < needed {
         return Answer {
             number: 11,
@@ -110,7 +122,16 @@ fn report_lines(lines: Lines, report: &mut [u8]) -> Answer
             length: 0,
         };
     }
-    let length = report::put_report(report, lines);
+    let length = report::put_report(
+        report,
+        book,
+        starts,
+        standings,
+        offset,
+        count,
+        total,
+        residue,
+    );
     Answer {
         number: 0,
         place: 0,
@@ -123,7 +144,11 @@ fn report_lines(lines: Lines, report: &mut [u8]) -> Answer
 pub fn allot(book: &[u8], report: &mut [u8]) -> Answer
     ensures { λ r. ⌜ Answered (answer (now (book .entry)) (length (now (report .entry)))) r (now (report .entry)) (now (report .exit)) ⌝ }
 {
-    let worked = work_out(book);
+    let mut keys = [0u64; 256];
+    let mut starts = [0u16; 256];
+    let mut standings = [0u8; 256];
+    let mut stakes = [0u32; 256];
+    let worked = work_out(book, &mut keys, &mut starts, &mut standings, &mut stakes);
     let refused = worked.refusal;
     if refused.number != 0 {
         return Answer {
@@ -132,8 +157,17 @@ pub fn allot(book: &[u8], report: &mut [u8]) -> Answer
             length: 0,
         };
     }
-    let lines = worked.lines;
-    report_lines(lines, report)
+    let offset = worked.offset;
+    report_lines(
+        book,
+        &starts,
+        &standings,
+        &offset,
+        worked.count,
+        worked.total,
+        worked.residue,
+        report,
+    )
 }
 
 // The same for C.
@@ -149,11 +183,24 @@ pub fn list(book: &[u8], out: &mut [u8]) -> usize
     requires { ⌜ 8192 ≤ length (now out) ⌝ }
     ensures { λ r. ⌜ Listed (listing (now (book .entry))) (now (out .entry)) (now (out .exit)) r ⌝ }
 {
-    let worked = work_out(book);
+    let mut keys = [0u64; 256];
+    let mut starts = [0u16; 256];
+    let mut standings = [0u8; 256];
+    let mut stakes = [0u32; 256];
+    let worked = work_out(book, &mut keys, &mut starts, &mut standings, &mut stakes);
     let stopped = worked.refusal;
     if stopped.number != 0 {
         return printing::put_refusal(out, stopped.number, stopped.place as u64);
     }
-    let lines = worked.lines;
-    report::put_listing(out, lines)
+    let offset = worked.offset;
+    report::put_listing(
+        out,
+        book,
+        &starts,
+        &standings,
+        &offset,
+        worked.count,
+        worked.total,
+        worked.residue,
+    )
 }

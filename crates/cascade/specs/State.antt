@@ -1,81 +1,87 @@
--- What the contracts of this crate cite: the lines that a cascade's state shows, the state after a tier, and what the code asks of a state.
--- A line of a state has its customer's key for a code: keys are in order as the codes are.
+-- What the contracts of this crate cite: the state after a tier, and what the code asks of a state and of the columns.
 -- Assumes nothing.
 use Prim.Native.Nat.{ℕ, _+_, _-_, _≤_, _<_}
 use mathlib.Core.Path.{_≡_}
-use mathlib.Core.List.{List, [], _∷_, _++_, map}
-use lib.ListN.{length, getD, drop, replicate}
-use Rattle.rules.specs.Cascade.{Line, offeredIn, quantity, tier}
-use Rattle.rules.specs.declared.Standing.the-variants.{Pending}
+use mathlib.Core.Bool.{cond}
+use mathlib.Core.List.{List, _++_, map}
+use lib.Dec.{eqb}
+use lib.ListN.{length, drop}
+use Rattle.rules.specs.Division.{sumOf}
+use Rattle.rules.specs.Cascade.{Line, quantity, tier}
 use Rattle.laws.specs.Sums.{upTo}
 use Rattle.laws.specs.Filled.{filled}
-use Rattle.cascade.specs.declared.Row.{Row}
+use Rattle.division.specs.Shares.{at, shareAt}
+use Rattle.cascade.specs.Columns.{Columns, linesOf}
 use Rattle.cascade.specs.declared.Cascade.{Cascade}
 
-abbrev pub rowAt : List Row → ℕ → Row
-rowAt rows i = getD rows i (record { standing = Pending; offered = 0; pending = 0; offset = 0 })
-
-abbrev pub lineAt : List ℕ → List Row → ℕ → Line
-lineAt keys rows i =
-    let r = rowAt rows i in
-    record { code = getD keys i 0 ∷ []; standing = r .standing; offered = r .offered; pending = r .pending; offset = r .offset }
-
-abbrev pub rowOf : Line → Row
-rowOf l = record { standing = l .standing; offered = l .offered; pending = l .pending; offset = l .offset }
-
-unfoldable pub linesOf : Cascade → List Line
-linesOf st = map (lineAt (st .keys) (st .rows)) (upTo (st .count))
+abbrev pub offsetOf : Line → ℕ
+offsetOf l = l .offset
 
 -- the state after tier k; what stands behind the customers is as it was
-unfoldable pub afterTier : ℕ → Cascade → Cascade
-afterTier k st =
+unfoldable pub afterTier : ℕ → Columns → Cascade → Cascade
+afterTier k c st =
     record {
-      count = st .count;
-      keys = st .keys;
-      rows = map rowOf (tier k (linesOf st)) ++ drop (st .count) (st .rows);
-      total = st .total + quantity k (linesOf st);
+      offset = map offsetOf (tier k (linesOf c (st .offset))) ++ drop (c .count) (st .offset);
+      total = st .total + quantity k (linesOf c (st .offset));
     }
 
 -- "Tiers go 1, 2, 3."
-abbrev pub afterAll : Cascade → Cascade
-afterAll st = afterTier 3 (afterTier 2 (afterTier 1 st))
+abbrev pub afterAll : Columns → Cascade → Cascade
+afterAll c st = afterTier 3 c (afterTier 2 c (afterTier 1 c st))
+
+-- a pending customer has offset no more than its stake
+pub record Within (standing stake offset : ℕ) : Type 0 where
+  pub within : standing ≡ 0 → offset ≤ stake
+  pub small : stake ≤ 4000000
 
 -- nobody holds more than 4,000,000 lots, and at most `most` lots were offset so far
-pub record Small (most : ℕ) (r : Row) : Type 0 where
-  pub offered : r .offered ≤ 4000000
-  pub pending : r .pending ≤ 4000000
-  pub offset : r .offset ≤ most
-
-pub record Steady (most : ℕ) (st : Cascade) : Type 0 where
-  pub few : st .count ≤ 256
-  pub each : (i : ℕ) → i < st .count → Small most (rowAt (st .rows) i)
+pub record Steady (most : ℕ) (c : Columns) (st : Cascade) : Type 0 where
+  pub few : c .count ≤ 256
+  pub keyed : c .count ≤ length (c .keys)
+  pub stood : c .count ≤ length (c .standings)
+  pub staked : c .count ≤ length (c .stakes)
+  pub wide : c .count ≤ length (st .offset)
+  pub each : (i : ℕ) → i < c .count → Within (at (c .standings) i) (at (c .stakes) i) (at (st .offset) i)
+  pub offset : (i : ℕ) → i < c .count → at (st .offset) i ≤ most
   pub total : st .total ≤ most
 
-abbrev pub offeredAt : ℕ → List Row → ℕ → ℕ
-offeredAt k rows i = offeredIn k (lineAt [] rows i)
+-- the tier is one of the three, and there is room to work in
+pub record Scratch (k count : ℕ) (weights lots : List ℕ) : Type 0 where
+  pub first : 0 < k
+  pub last : k ≤ 3
+  pub weighing : count ≤ length weights
+  pub room : count ≤ length lots
 
-abbrev pub pendingAt : List Row → ℕ → ℕ
-pendingAt rows i = rowAt rows i .pending
+-- the stake of customer i where its standing is k, what it still has pending, and its offset with some lots more
+abbrev pub stakeAt : ℕ → List ℕ → List ℕ → ℕ → ℕ
+stakeAt k standings stakes i = cond (eqb (at standings i) k) (at stakes i) 0
 
--- the two arrays of weights, 0 from `count` on; and the rows are a whole array
-pub record Weighed (rows : List Row) (count k : ℕ) (offered pending : List ℕ) : Type 0 where
-  pub size : length rows ≡ 256
-  pub offers : offered ≡ filled (offeredAt k rows) count (replicate 256 0)
-  pub waits : pending ≡ filled (pendingAt rows) count (replicate 256 0)
+abbrev pub pendingAt : List ℕ → List ℕ → List ℕ → ℕ → ℕ
+pendingAt standings stakes offset i = cond (eqb (at standings i) 0) (at stakes i - at offset i) 0
 
--- a row after a tier in which each customer gives and closes so many lots
-abbrev pub movedAt : List Row → List ℕ → List ℕ → ℕ → Row
-movedAt rows gives closes i =
-    let r = rowAt rows i in
-    record {
-      standing = r .standing;
-      offered = r .offered;
-      pending = r .pending - getD closes i 0;
-      offset = r .offset + getD gives i 0 + getD closes i 0;
-    }
+abbrev pub addedAt : List ℕ → List ℕ → ℕ → ℕ
+addedAt offset lots i = at offset i + at lots i
 
--- nobody closes more than it has pending, and each offset fits
-pub record Moves (rows : List Row) (count : ℕ) (gives closes : List ℕ) : Type 0 where
+pub record Staked (standings stakes : List ℕ) (count : ℕ) : Type 0 where
   pub few : count ≤ 256
-  pub closed : (i : ℕ) → i < count → getD closes i 0 ≤ rowAt rows i .pending
-  pub fits : (i : ℕ) → i < count → rowAt rows i .offset + getD gives i 0 + getD closes i 0 ≤ 4200000000
+  pub stood : count ≤ length standings
+  pub staked : count ≤ length stakes
+  pub small : (i : ℕ) → i < count → at stakes i ≤ 4000000
+
+-- the weights that a loop leaves in an array, and their sum
+pub record Weighed (weight : ℕ → ℕ) (count : ℕ) (entry exit : List ℕ) (r : ℕ) : Type 0 where
+  pub weights : exit ≡ filled weight count entry
+  pub sum : r ≡ sumOf weight (upTo count)
+
+pub record Addable (offset lots : List ℕ) (count : ℕ) : Type 0 where
+  pub offsets : count ≤ length offset
+  pub given : count ≤ length lots
+  pub fits : (i : ℕ) → i < count → at offset i + at lots i ≤ 4200000000
+
+-- an offset with the customer's share more; a share is at most its weight
+abbrev pub dealtAt : List ℕ → List ℕ → ℕ → ℕ → List ℕ → ℕ → ℕ
+dealtAt keys weights count x offset i = at offset i + shareAt keys weights count x i
+
+pub record Open (weights offset : List ℕ) (count : ℕ) : Type 0 where
+  pub offsets : count ≤ length offset
+  pub fits : (i : ℕ) → i < count → at offset i + at weights i ≤ 4200000000

@@ -1,103 +1,112 @@
-// The cascade: a state by value, with a method for one tier that hands the state back.
-use rules::Standing;
+// The cascade: a state by value, with a method for one tier that hands the state back. The customers' columns are lent.
 ghost use mathlib.Core.Path.{_≡_};
 ghost use mathlib.Core.Bool.{cond};
 ghost use lib.Dec.{eqb};
-ghost use Prim.Native.Nat.{_≤_, min};
+ghost use lib.ListN.{length};
+ghost use Prim.Native.Nat.{ℕ, _-_, _≤_, _<_, min};
 ghost use Rattle.rules.specs.Division.{sumOf};
-ghost use Rattle.rules.specs.Cascade.{tierOf, pendingOf};
+ghost use Rattle.rules.specs.Cascade.{pendingOf};
+ghost use Rattle.laws.specs.Sums.{upTo};
 ghost use Rattle.laws.specs.Filled.{filled};
-ghost use Rattle.cascade.specs.State.{linesOf, afterTier, afterAll, Steady, Weighed, Moves, movedAt};
+ghost use Rattle.division.specs.Shares.{at, Lent};
+ghost use Rattle.cascade.specs.Columns.{columns, linesOf};
+ghost use Rattle.cascade.specs.State.{afterTier, afterAll, Steady, Scratch, stakeAt, pendingAt, addedAt, Within, Staked, Addable, Weighed, Open, dealtAt};
 
-// A customer of the roll, without its code. Its lots, also those offset in all tiers, stay below 2^32.
-pub struct Row {
-    pub standing: Standing,
-    pub offered: u32,
-    pub pending: u32,
-    pub offset: u32,
-}
-
-// The first `count` keys and rows are the customers'; `total` is the sum of the quantities so far.
+// What each customer has offset so far, and the sum of the quantities. A customer's lots stay below 2^32.
 pub struct Cascade {
-    pub count: usize,
-    pub keys: [u64; 256],
-    pub rows: [Row; 256],
+    pub offset: [u32; 256],
     pub total: u64,
 }
 
-// The tier of a standing, 0 for none.
-fn tier_of(standing: Standing) -> u64
-    ensures { λ r. ⌜ r ≡ tierOf standing ⌝ }
+// A customer's stake where its standing is k, else nothing: what it offers in tier k, and for 0 what it had pending at first.
+fn stake_in(k: u8, standing: u8, stake: u32) -> u64
+    ensures { λ r. ⌜ r ≡ cond (eqb standing k) stake 0 ⌝ }
 {
-    match standing {
-        Standing::Pending => 0,
-        Standing::Tier1 => 1,
-        Standing::Tier2 => 2,
-        Standing::Tier3 => 3,
-        Standing::Neither => 0,
-    }
+    if standing == k { stake as u64 } else { 0 }
 }
 
-// What a customer offers in tier k.
-fn offered_in(k: u64, standing: Standing, offered: u32) -> u64
-    ensures { λ r. ⌜ r ≡ cond (eqb (tierOf standing) k) offered 0 ⌝ }
+// What of a stake is still pending.
+fn pending_in(standing: u8, stake: u32, offset: u32) -> u64
+    requires { ⌜ Within standing stake offset ⌝ }
+    ensures { λ r. ⌜ r ≡ cond (eqb standing 0) (stake - offset) 0 ⌝ }
 {
-    if tier_of(standing) == k {
-        offered as u64
+    if standing == 0 {
+        (stake - offset) as u64
     } else {
         0
     }
 }
 
-// What each customer offers in a tier, and what each still has pending.
-struct Weights {
-    offered: [u64; 256],
-    pending: [u64; 256],
-}
-
-fn weigh(rows: [Row; 256], count: usize, k: u64) -> Weights
-    requires { ⌜ count ≤ 256 ⌝ }
-    ensures { λ r. ⌜ Weighed rows count k (r .offered) (r .pending) ⌝ }
+// Puts what each customer offers in tier k into `weights`. Returns the sum.
+fn weigh_offered(standings: &[u8], stakes: &[u32], count: usize, k: u8, weights: &mut [u64]) -> u64
+    requires { ⌜ Staked (now standings) (now stakes) count ⌝ }
+    requires { ⌜ count ≤ length (now weights) ⌝ }
+    ensures { λ r. ⌜ Weighed (stakeAt k (now (standings .entry)) (now (stakes .entry))) count (now (weights .entry)) (now (weights .exit)) r ⌝ }
 {
-    let mut offered = [0u64; 256];
-    let mut pending = [0u64; 256];
+    let mut sum: u64 = 0;
     let mut i: usize = 0;
     while i < count {
-        let row = rows[i];
-        let standing = row.standing;
-        offered[i] = offered_in(k, standing, row.offered);
-        pending[i] = row.pending as u64;
+        let w = stake_in(k, standings[i], stakes[i]);
+        weights[i] = w;
+        sum += w;
         i += 1;
     }
-    Weights {
-        offered: offered,
-        pending: pending,
+    sum
+}
+
+// Puts what each customer still has pending into `weights`. Returns the sum.
+fn weigh_pending(
+    standings: &[u8],
+    stakes: &[u32],
+    offset: &[u32],
+    count: usize,
+    weights: &mut [u64],
+) -> u64
+    requires { ⌜ Staked (now standings) (now stakes) count ⌝ }
+    requires { ⌜ count ≤ length (now weights) ⌝ }
+    requires { ⌜ count ≤ length (now offset) ⌝ }
+    requires { ⌜ ((i : ℕ) → i < count → Within (at (now standings) i) (at (now stakes) i) (at (now offset) i)) ⌝ }
+    ensures { λ r. ⌜ Weighed (pendingAt (now (standings .entry)) (now (stakes .entry)) (now (offset .entry))) count (now (weights .entry)) (now (weights .exit)) r ⌝ }
+{
+    let mut sum: u64 = 0;
+    let mut i: usize = 0;
+    while i < count {
+        let w = pending_in(standings[i], stakes[i], offset[i]);
+        weights[i] = w;
+        sum += w;
+        i += 1;
+    }
+    sum
+}
+
+// Adds the lots to what is offset.
+fn add(offset: &mut [u32], lots: &[u64], count: usize)
+    requires { ⌜ Addable (now offset) (now lots) count ⌝ }
+    ensures { λ r. ⌜ now (offset .exit) ≡ filled (addedAt (now (offset .entry)) (now (lots .entry))) count (now (offset .entry)) ⌝ }
+{
+    let mut i: usize = 0;
+    while i < count {
+        offset[i] = offset[i] + lots[i] as u32;
+        i += 1;
     }
 }
 
-// The rows after a tier in which each customer gives and closes so many lots.
-fn move_lots(rows: [Row; 256], count: usize, gives: &[u64; 256], closes: &[u64; 256]) -> [Row; 256]
-    requires { ⌜ Moves rows count (now gives) (now closes) ⌝ }
-    ensures { λ r. ⌜ r ≡ filled (movedAt rows (now (gives .entry)) (now (closes .entry))) count rows ⌝ }
+// Divides x over the weights, and adds each customer's lots to what it has offset.
+fn deal(
+    weights: &[u64],
+    keys: &[u64],
+    count: usize,
+    x: u64,
+    sum: u64,
+    lots: &mut [u64],
+    offset: &mut [u32],
+)
+    requires { ⌜ Lent (now weights) (now keys) (now lots) count x sum ⌝ }
+    requires { ⌜ Open (now weights) (now offset) count ⌝ }
+    ensures { λ r. ⌜ now (offset .exit) ≡ filled (dealtAt (now (keys .entry)) (now (weights .entry)) count x (now (offset .entry))) count (now (offset .entry)) ⌝ }
 {
-    let mut moved = rows;
-    let mut i: usize = 0;
-    while i < count {
-        let row = moved[i];
-        let standing = row.standing;
-        let given = gives[i] as u32;
-        let closed = closes[i] as u32;
-        let pending = row.pending - closed;
-        let offset = row.offset + given + closed;
-        moved[i] = Row {
-            standing: standing,
-            offered: row.offered,
-            pending: pending,
-            offset: offset,
-        };
-        i += 1;
-    }
-    moved
+    division::divide(weights, keys, count, x, sum, lots);
+    add(offset, lots, count);
 }
 
 fn lesser(a: u64, b: u64) -> u64
@@ -106,57 +115,77 @@ fn lesser(a: u64, b: u64) -> u64
     if a < b { a } else { b }
 }
 
+// What was pending at first.
+pub fn owed(standings: &[u8], stakes: &[u32], count: usize) -> u64
+    requires { ⌜ Staked (now standings) (now stakes) count ⌝ }
+    ensures { λ r. ⌜ r ≡ sumOf (stakeAt 0 (now (standings .entry)) (now (stakes .entry))) (upTo count) ⌝ }
+{
+    let mut sum: u64 = 0;
+    let mut i: usize = 0;
+    while i < count {
+        sum += stake_in(0, standings[i], stakes[i]);
+        i += 1;
+    }
+    sum
+}
+
 impl Cascade {
-    // One tier: its quantity is divided twice, by what is offered in the tier and by what is pending.
-    pub fn tier(mut self, k: u64) -> Cascade
-        requires { ⌜ Steady 4000000000 self ⌝ }
-        ensures { λ r. ⌜ r ≡ afterTier k self ⌝ }
+    // One tier: its quantity is divided twice, by what is offered in the tier and by what is pending. `weights` and `lots` are room
+    // to work in.
+    pub fn tier(
+        self,
+        keys: &[u64],
+        standings: &[u8],
+        stakes: &[u32],
+        count: usize,
+        k: u8,
+        weights: &mut [u64],
+        lots: &mut [u64],
+    ) -> Cascade
+        requires { ⌜ Steady 4000000000 (columns (now keys) (now standings) (now stakes) count) self ⌝ }
+        requires { ⌜ Scratch k count (now weights) (now lots) ⌝ }
+        ensures { λ r. ⌜ r ≡ afterTier k (columns (now (keys .entry)) (now (standings .entry)) (now (stakes .entry)) count) self ⌝ }
     {
-        let count = self.count;
-        let rows = self.rows;
-        let weights = weigh(rows, count, k);
-        let pending = division::total(&weights.pending, count);
-        let offered = division::total(&weights.offered, count);
+        let mut offset = self.offset;
+        let offered = weigh_offered(standings, stakes, count, k, weights);
+        let pending = weigh_pending(standings, stakes, &offset, count, weights);
         let x = lesser(pending, offered);
         if x == 0 {
             return self;
         }
-        let gives = division::divide(&weights.offered, &self.keys, count, x);
-        let closes = division::divide(&weights.pending, &self.keys, count, x);
-        let moved = move_lots(rows, count, &gives.lots, &closes.lots);
-        self.rows = moved;
-        self.total += x;
-        self
+        deal(weights, keys, count, x, pending, lots, &mut offset);
+        weigh_offered(standings, stakes, count, k, weights);
+        deal(weights, keys, count, x, offered, lots, &mut offset);
+        Cascade {
+            offset: offset,
+            total: self.total + x,
+        }
     }
 
-    // The three tiers; k is the last that was worked. There is one call of `tier`, so that it is compiled into its caller and the
-    // states share their room.
-    pub fn run(self) -> Cascade
-        requires { ⌜ Steady 0 self ⌝ }
-        ensures { λ r. ⌜ r ≡ afterAll self ⌝ }
+    // The three tiers, where `owed` is what is pending; k is the last that was worked. Where nothing is pending, nothing moves.
+    pub fn run(
+        self,
+        keys: &[u64],
+        standings: &[u8],
+        stakes: &[u32],
+        count: usize,
+        owed: u64,
+    ) -> Cascade
+        requires { ⌜ Steady 0 (columns (now keys) (now standings) (now stakes) count) self ⌝ }
+        requires { ⌜ owed ≡ sumOf pendingOf (linesOf (columns (now keys) (now standings) (now stakes) count) (self .offset)) ⌝ }
+        ensures { λ r. ⌜ r ≡ afterAll (columns (now (keys .entry)) (now (standings .entry)) (now (stakes .entry)) count) self ⌝ }
     {
+        if owed == 0 {
+            return self;
+        }
+        let mut weights = [0u64; 256];
+        let mut lots = [0u64; 256];
         let mut state = self;
-        let mut k: u64 = 0;
+        let mut k: u8 = 0;
         while k < 3 {
             k += 1;
-            state = state.tier(k);
+            state = state.tier(keys, standings, stakes, count, k, &mut weights, &mut lots);
         }
         state
-    }
-
-    // What is still pending.
-    pub fn owed(self) -> u64
-        requires { ⌜ Steady 4000000000 self ⌝ }
-        ensures { λ r. ⌜ r ≡ sumOf pendingOf (linesOf self) ⌝ }
-    {
-        let count = self.count;
-        let mut sum: u64 = 0;
-        let mut i: usize = 0;
-        while i < count {
-            let row = self.rows[i];
-            sum += row.pending as u64;
-            i += 1;
-        }
-        sum
     }
 }

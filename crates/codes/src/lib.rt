@@ -91,9 +91,8 @@ pub fn read_code(v: &[u8]) -> Code
 }
 
 // Whether this key is among the first `count`. No branch in the loop: the keys of a sound book differ, so all are looked at.
-// A reference to an array tells a proof nothing of the length of its list, so that is asked for.
-pub fn given(keys: &[u64; 256], count: usize, key: u64) -> bool
-    requires { ⌜ (count ≤ 256) × (count ≤ length (now keys)) ⌝ }
+pub fn given(keys: &[u64], count: usize, key: u64) -> bool
+    requires { ⌜ count ≤ length (now keys) ⌝ }
     ensures { λ r. ⌜ r ≡ givenIn (take count (now (keys .entry))) key ⌝ }
 {
     let mut found = false;
@@ -113,8 +112,8 @@ pub fn mark_of(key: u64) -> usize
 }
 
 // Whether this key is among the first `count`, which all have their marks: the keys are looked through only where its place is marked.
-pub fn known(keys: &[u64; 256], marks: &[u8; 4096], count: usize, key: u64) -> bool
-    requires { ⌜ (count ≤ 256) × (count ≤ length (now keys)) ⌝ ∗ ⌜ Marked (now keys) (now marks) count ⌝ }
+pub fn known(keys: &[u64], marks: &[u8; 4096], count: usize, key: u64) -> bool
+    requires { ⌜ count ≤ length (now keys) ⌝ ∗ ⌜ Marked (now keys) (now marks) count ⌝ }
     ensures { λ r. ⌜ r ≡ givenIn (take count (now (keys .entry))) key ⌝ }
 {
     let mark = mark_of(key);

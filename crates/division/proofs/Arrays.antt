@@ -1,14 +1,14 @@
 -- A list laid over the front of an array: what one more store makes of it, and what it leaves.
 -- Assumes nothing.
 use Prim.Native.Nat.{ℕ, suc, _+_, _-_, _≤_, _<_}
-use mathlib.Core.Path.{_≡_, sym, ap, _∙_}
+use mathlib.Core.Path.{_≡_, sym, ap, subst, _∙_}
 use mathlib.Core.List.{List, [], _∷_, _++_, map, append-assoc}
 use native.Mathlib.Numerals.{add-one}
 use native.Mathlib.Omega.{arith}
-use lib.ListN.{length, set, drop, length-append, length-drop, take-append-drop}
+use lib.ListN.{length, set, drop, length-append, length-drop}
 use lib.Seq.{set-at, drop-cons, getD-append-add, getD-drop, drop-append-add, drop-drop}
-use Rattle.laws.specs.Sums.{upTo, take-upTo}
-use Rattle.laws.specs.Indices.{map-more, map-below, length-map-upTo}
+use Rattle.laws.specs.Sums.{upTo}
+use Rattle.laws.specs.Indices.{map-more, length-map-upTo}
 use Rattle.division.specs.Shares.{at, over}
 
 pub over-more : (p l : List ℕ) (i v : ℕ) → length p ≡ i → i < length l → set (over p l) i v ≡ over (p ++ v ∷ []) l
@@ -36,6 +36,6 @@ drop-over p l n h =
 pub over-over : (p q l : List ℕ) → length q ≤ length p → over p (over q l) ≡ over p l
 over-over p q l h = ap (λ r. p ++ r) (drop-over q l (length p) h)
 
--- what is there already
-pub over-same : (f : ℕ → ℕ) (l : List ℕ) (n : ℕ) → n ≤ length l → ((i : ℕ) → i < n → f i ≡ at l i) → over (map f (upTo n)) l ≡ l
-over-same f l n h e = rw (map-below f (at l) n e, length-map-upTo (at l) n, take-upTo 0 l n h) (take-append-drop n l)
+-- what is said of a lent array and a number of its places
+pub along : (P : List ℕ → ℕ → Type 0) {l m : List ℕ} {i n : ℕ} → l ≡ m → i ≡ n → P l i → P m n
+along P {m = m} {i = i} e f p = subst (P m) f (subst (λ l. P l i) e p)

@@ -28,4 +28,4 @@ module _ {weights lots : List ℕ} {count x sum : ℕ} (r : Ready weights lots c
   wholes-le i h = sum-bound (wholeAt weights x sum) 4000000 i (λ k l. whole-le k (omega arith))
 
   pub inside : (i : ℕ) → i < count → i < length lots
-  inside i h = omega (arith, r .asked .bounded .few, r .size)
+  inside i h = omega (arith, r .size)

@@ -7,13 +7,13 @@ use mathlib.Core.List.{List, map}
 use native.Mathlib.Nat.{mod-lt}
 use native.Mathlib.Omega.{arith}
 use lib.Dec.{ltb, eqb}
-use lib.ListN.{replicate, length-replicate, getD-replicate, List·getD-append}
+use lib.ListN.{List·getD-append}
 use borrow.Author.Tests.{lt-ltb, eq-eqb, ne-eqb, ltb-true, eqb-true}
 use Rattle.rules.specs.Division.{sumOf, oneIf, leftOver, rank, shareOf, share}
 use Rattle.laws.specs.Sums.{upTo, length-upTo}
 use Rattle.laws.specs.Indices.{sum-below, map-below, length-map-upTo, getD-map-upTo}
 use Rattle.laws.specs.Division.{wholes-le, left-few, share-of-none}
-use Rattle.division.proofs.Arrays.{length-over, over-over, over-same}
+use Rattle.division.proofs.Arrays.{length-over, over-over}
 use Rattle.division.proofs.Counts.{tied-few}
 use Rattle.division.proofs.Order.{same, last-serves}
 use Rattle.division.specs.Shares.{at, over, codeAt, shareAt}
@@ -55,7 +55,7 @@ module _ {weights blank lots : List ℕ} {count x sum given : ℕ} (keys : List 
       let m = length-map-upTo (lackAt weights x sum) count in
       record {
         few = r .asked .bounded .few;
-        size = rw (s .lacks) (length-over (map (lackAt weights x sum) (upTo count)) blank (omega (arith, m, r .size, r .asked .bounded .few)) ∙ r .size);
+        size = rw (s .lacks) (omega (arith, r .size, length-over (map (lackAt weights x sum) (upTo count)) blank (omega (arith, m, r .size))));
         spared = let z = left-few (codeAt keys) (at weights) x (upTo count) pos in rw (s .whole, r .total) (omega (arith, z, length-upTo count));
         some = λ i h. rw (lack-at i h) (omega (arith, rest-lt i));
         most = λ i h. rw (lack-at i h) (omega arith);
@@ -72,8 +72,8 @@ module _ {weights blank lots : List ℕ} {count x sum given : ℕ} (keys : List 
     pub ready : Ready weights after count x sum
     ready =
         let few = tied-few lots keys count lack in
-        let size = length-over (tiedKeys lots keys lack count) lots (omega (arith, few, lacking .size, r .asked .bounded .few)) in
-        record { asked = r .asked; total = r .total; some = r .some; size = rw (l .front) (size ∙ lacking .size) }
+        let size = length-over (tiedKeys lots keys lack count) lots (omega (arith, few, lacking .size)) in
+        record { asked = r .asked; total = r .total; some = r .some; size = rw (l .front) (omega (arith, size, lacking .size)) }
 
     share-is : 0 < x → (i : ℕ) → i < count → lotsAt weights keys x sum lack key i ≡ shareAt keys weights count x i
     unfolding lotsAt shareAt share shareOf leftOver
@@ -94,10 +94,9 @@ module _ {weights blank lots : List ℕ} {count x sum given : ℕ} (keys : List 
         ∙ ap (over p) (s .lacks) ∙ over-over p (map (lackAt weights x sum) (upTo count)) blank (omega (arith, m, length-map-upTo (lackAt weights x sum) count))
         ∙ ap (λ q. over q blank) (map-below f (shareAt keys weights count x) count (share-is some))
 
--- where nothing is divided, an array of zeros stays as it is
-pub shares-none : (keys weights : List ℕ) (count x m : ℕ) → count ≤ m → x ≡ 0 →
-    over (map (shareAt keys weights count x) (upTo count)) (replicate m 0) ≡ replicate m 0
+-- where nothing is divided, nobody gets anything
+pub shares-none : (keys weights : List ℕ) (count x : ℕ) (lots : List ℕ) → x ≡ 0 →
+    over (map (λ i. 0) (upTo count)) lots ≡ over (map (shareAt keys weights count x) (upTo count)) lots
 unfolding shareAt
-shares-none keys weights count x m h e =
-    over-same _ (replicate m 0) count (omega (arith, length-replicate {A = ℕ} m 0))
-    (λ i l. share-of-none (codeAt keys) (at weights) x (upTo count) i e ∙ sym (getD-replicate {A = ℕ} m i 0 0 (omega arith)))
+shares-none keys weights count x lots e =
+    ap (λ q. over q lots) (map-below _ _ count (λ i l. sym (share-of-none (codeAt keys) (at weights) x (upTo count) i e)))

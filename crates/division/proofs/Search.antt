@@ -15,6 +15,14 @@ use Rattle.division.specs.Last.{belowOf, beforeOf, tiedKeys, leastOf, mo
 pub below-it : (value : ℕ → ℕ) (n e : ℕ) {r : ℕ} → 1 ≤ e → r ≡ belowOf value n (e - 1 + 1) → r ≡ belowOf value n e
 below-it value n e h z = let d : e - 1 + 1 ≡ e = omega arith in rw d at z
 
+-- the same with numbers that the code holds
+pub sought-as : {value : ℕ → ℕ} {n need least most need′ least′ most′ : ℕ} → need′ ≡ need → least′ ≡ least → most′ ≡ most →
+    Sought value n need least most → Sought value n need′ least′ most′
+sought-as e f g s = rw (e, f, g) s
+
+pub edge-as : {up below need need′ : ℕ} → need ≡ need′ → Edge up below need → Edge up below need′
+edge-as e s = rw e at s
+
 module _ {lacks : List ℕ} {n spare sum : ℕ} (keys : List ℕ) (h : Lacking lacks n spare sum) where
   none-tied : (m : ℕ) → m ≤ n → tiedKeys lacks keys 0 m ≡ []
   none-tied zero l = refl
@@ -32,7 +40,6 @@ module _ {lacks : List ℕ} {n spare sum : ℕ} (keys : List ℕ) (h : Lacking l
   seek-lack ne =
       let first : 0 < n = omega (arith, h .spared) in
       record {
-        few = h .few;
         span = omega (arith, h .some 0 first, h .most 0 first);
         under = rw (below-none (at lacks) n 1 (h .some)) (omega arith);
         enough = rw (below-all (at lacks) n (sum + 1) (λ i l. omega (arith, h .most i l))) (h .spared);
@@ -65,7 +72,6 @@ module _ {lacks : List ℕ} {n spare sum : ℕ} (keys : List ℕ) (h : Lacking l
       pub seek-key : Sought key tied (spare - sooner) (leastOf key tied) (mostOf key tied)
       seek-key =
           record {
-            few = omega (arith, tied-few lacks keys n e, h .few);
             span = least-le-most key tied;
             under = rw (below-none key tied (leastOf key tied) (least-le key tied)) (omega (arith, sooner-less));
             enough = rw all-below (omega (arith, f .enough, up-to-edge lacks keys n e));

@@ -55,7 +55,6 @@ pub record Edge (up below need : ℕ) : Type 0 where
 
 -- What the search for an edge asks, and what it finds.
 pub record Sought (value : ℕ → ℕ) (n need least most : ℕ) : Type 0 where
-  pub few : n ≤ 256
   pub span : least ≤ most
   pub under : belowOf value n least < need
   pub enough : need ≤ belowOf value n (most + 1)
@@ -69,7 +68,7 @@ pub record Ready (weights lots : List ℕ) (count x sum : ℕ) : Type 0 where
   pub asked : Asked weights count x
   pub total : sum ≡ sumOf (at weights) (upTo count)
   pub some : 0 < sum
-  pub size : length lots ≡ 256
+  pub size : count ≤ length lots
 
 pub record Spread (weights lots after : List ℕ) (count x sum r : ℕ) : Type 0 where
   pub whole : r ≡ sumOf (wholeAt weights x sum) (upTo count)
@@ -78,7 +77,7 @@ pub record Spread (weights lots after : List ℕ) (count x sum r : ℕ) : Type 0
 -- then the last: each lacks something, and at most a whole lot, and no more lots are left over than there are members;
 pub record Lacking (lacks : List ℕ) (count spare sum : ℕ) : Type 0 where
   pub few : count ≤ 256
-  pub size : length lacks ≡ 256
+  pub size : count ≤ length lacks
   pub spared : spare ≤ count
   pub some : (i : ℕ) → i < count → 0 < at lacks i
   pub most : (i : ℕ) → i < count → at lacks i ≤ sum

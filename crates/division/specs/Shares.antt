@@ -3,7 +3,8 @@
 -- Assumes nothing.
 use Prim.Native.Nat.{ℕ, _≤_, _<_}
 use mathlib.Core.List.{List, [], _∷_, _++_, map}
-use lib.ListN.{length, getD, drop, replicate}
+use mathlib.Core.Path.{_≡_}
+use lib.ListN.{length, getD, drop}
 use Rattle.rules.specs.Division.{sumOf, share}
 use Rattle.laws.specs.Sums.{upTo}
 
@@ -20,15 +21,22 @@ over p l = p ++ drop (length p) l
 unfoldable pub shareAt : List ℕ → List ℕ → ℕ → ℕ → ℕ → ℕ
 shareAt keys weights count x = share (codeAt keys) (at weights) x (upTo count)
 
--- the lots of each place: the shares, and 0 from `count` on
-unfoldable pub sharesOf : List ℕ → List ℕ → ℕ → ℕ → List ℕ
-sharesOf keys weights count x = over (map (shareAt keys weights count x) (upTo count)) (replicate 256 0)
+-- a lent array after a division: the shares, and from `count` on as it was
+unfoldable pub sharesOver : List ℕ → List ℕ → ℕ → ℕ → List ℕ → List ℕ
+sharesOver keys weights count x lots = over (map (shareAt keys weights count x) (upTo count)) lots
 
--- what a sum of weights asks, and a division
+-- what is asked of the weights, of what is divided over them, and of the arrays that are lent
 pub record Bounded (weights : List ℕ) (count : ℕ) : Type 0 where
   pub few : count ≤ 256
+  pub within : count ≤ length weights
   pub small : (i : ℕ) → i < count → at weights i ≤ 4000000
 
 pub record Asked (weights : List ℕ) (count x : ℕ) : Type 0 where
   pub bounded : Bounded weights count
   pub lots : x ≤ sumOf (at weights) (upTo count)
+
+pub record Lent (weights keys lots : List ℕ) (count x sum : ℕ) : Type 0 where
+  pub asked : Asked weights count x
+  pub total : sum ≡ sumOf (at weights) (upTo count)
+  pub keyed : count ≤ length keys
+  pub room : count ≤ length lots

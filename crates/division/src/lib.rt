@@ -2,14 +2,11 @@
 ghost use mathlib.Core.Path.{_≡_};
 ghost use Prim.Native.Nat.{_+_, _-_, _/_, _%_, _≤_, _<_, min, max};
 ghost use lib.ListN.{length};
-ghost use Rattle.rules.specs.Division.{sumOf, oneIf};
+ghost use mathlib.Core.List.{map};
+ghost use Rattle.rules.specs.Division.{oneIf};
 ghost use Rattle.laws.specs.Sums.{upTo};
-ghost use Rattle.division.specs.Shares.{at, sharesOf, Bounded, Asked};
+ghost use Rattle.division.specs.Shares.{at, over, sharesOver, Lent};
 ghost use Rattle.division.specs.Last.{before, belowOf, leastOf, mostOf, Sought, Found, Ready, Spread, Lacking, Gathered, LastFound, Settled};
-
-pub struct Shares {
-    pub lots: [u64; 256],
-}
 
 // The last to get one of the lots left over: what it lacks of a whole lot, and its key.
 struct Last {
@@ -20,19 +17,6 @@ struct Last {
 struct Span {
     least: u64,
     most: u64,
-}
-
-pub fn total(weights: &[u64; 256], count: usize) -> u64
-    requires { ⌜ Bounded (now weights) count ⌝ }
-    ensures { λ r. ⌜ r ≡ sumOf (at (now (weights .entry))) (upTo count) ⌝ }
-{
-    let mut sum: u64 = 0;
-    let mut i: usize = 0;
-    while i < count {
-        sum += weights[i];
-        i += 1;
-    }
-    sum
 }
 
 // A member's whole lots, and what it lacks of one more.
@@ -59,7 +43,7 @@ fn part_of(product: u64, sum: u64) -> Part
 }
 
 // Puts what each member lacks into `lots`. Returns the sum of the whole parts.
-fn spread(weights: &[u64; 256], count: usize, x: u64, sum: u64, lots: &mut [u64; 256]) -> u64
+fn spread(weights: &[u64], count: usize, x: u64, sum: u64, lots: &mut [u64]) -> u64
     requires { ⌜ Ready (now weights) (now lots) count x sum ⌝ }
     ensures { λ r. ⌜ Spread (now (weights .entry)) (now (lots .entry)) (now (lots .exit)) count x sum r ⌝ }
 {
@@ -75,8 +59,8 @@ fn spread(weights: &[u64; 256], count: usize, x: u64, sum: u64, lots: &mut [u64;
 }
 
 // How many of the first `count` values are at most `most`.
-fn reached(values: &[u64; 256], count: usize, most: u64) -> u64
-    requires { ⌜ count ≤ 256 ⌝ }
+fn reached(values: &[u64], count: usize, most: u64) -> u64
+    requires { ⌜ count ≤ length (now values) ⌝ }
     ensures { λ r. ⌜ r ≡ belowOf (at (now (values .entry))) count (most + 1) ⌝ }
 {
     let mut n: u64 = 0;
@@ -90,7 +74,8 @@ fn reached(values: &[u64; 256], count: usize, most: u64) -> u64
 
 // Finds the least value, from `least` to `most`, that `need` of the first `count` values do not exceed, or any that exactly `need` do
 // not: by halves.
-fn find_edge(values: &[u64; 256], count: usize, need: u64, least: u64, most: u64) -> u64
+fn find_edge(values: &[u64], count: usize, need: u64, least: u64, most: u64) -> u64
+    requires { ⌜ count ≤ length (now values) ⌝ }
     requires { ⌜ Sought (at (now values)) count need least most ⌝ }
     ensures { λ r. ⌜ Found (at (now (values .entry))) count need least r ⌝ }
 {
@@ -112,8 +97,8 @@ fn find_edge(values: &[u64; 256], count: usize, need: u64, least: u64, most: u64
 }
 
 // Puts the keys of the members that lack exactly `edge` to the front of `lots`, which held what each lacks. Returns their number.
-fn gather(lots: &mut [u64; 256], keys: &[u64; 256], count: usize, edge: u64) -> usize
-    requires { ⌜ (count ≤ 256) × (length (now lots) ≡ 256) ⌝ }
+fn gather(lots: &mut [u64], keys: &[u64], count: usize, edge: u64) -> usize
+    requires { ⌜ (count ≤ length (now lots)) × (count ≤ length (now keys)) ⌝ }
     ensures { λ r. ⌜ Gathered (now (lots .entry)) (now (keys .entry)) (now (lots .exit)) count edge r ⌝ }
 {
     let mut n: usize = 0;
@@ -141,8 +126,8 @@ fn greater(a: u64, b: u64) -> u64
 }
 
 // The least and the greatest of the first `count` values.
-fn extent(values: &[u64; 256], count: usize) -> Span
-    requires { ⌜ count ≤ 256 ⌝ }
+fn extent(values: &[u64], count: usize) -> Span
+    requires { ⌜ (count ≤ length (now values)) × (0 < length (now values)) ⌝ }
     ensures { λ r. ⌜ (r .least ≡ leastOf (at (now (values .entry))) count) × (r .most ≡ mostOf (at (now (values .entry))) count) ⌝ }
 {
     let mut least = values[0];
@@ -161,7 +146,8 @@ fn extent(values: &[u64; 256], count: usize) -> Span
 
 // Finds the last to get one of the `spare` lots left over. `lots` holds what each lacks, and then, at its front, the keys of those who
 // lack the same as the last.
-fn find_last(lots: &mut [u64; 256], keys: &[u64; 256], count: usize, spare: u64, sum: u64) -> Last
+fn find_last(lots: &mut [u64], keys: &[u64], count: usize, spare: u64, sum: u64) -> Last
+    requires { ⌜ count ≤ length (now keys) ⌝ }
     requires { ⌜ Lacking (now lots) count spare sum ⌝ }
     ensures { λ r. ⌜ LastFound (now (lots .entry)) (now (keys .entry)) (now (lots .exit)) count spare (r .lack) (r .key) ⌝ }
 {
@@ -202,14 +188,15 @@ fn one_more(lack: u64, key: u64, edge: u64, most: u64) -> u64
 
 // Puts each member's lots into `lots`: the whole part, and one more where it is not after the last.
 fn settle(
-    weights: &[u64; 256],
-    keys: &[u64; 256],
+    weights: &[u64],
+    keys: &[u64],
     count: usize,
     x: u64,
     sum: u64,
     last: Last,
-    lots: &mut [u64; 256],
+    lots: &mut [u64],
 )
+    requires { ⌜ count ≤ length (now keys) ⌝ }
     requires { ⌜ Ready (now weights) (now lots) count x sum ⌝ }
     ensures { λ r. ⌜ Settled (now (weights .entry)) (now (keys .entry)) (now (lots .entry)) (now (lots .exit)) count x sum (last .lack) (last .key) ⌝ }
 {
@@ -223,17 +210,28 @@ fn settle(
     }
 }
 
-pub fn divide<'a>(weights: &'a [u64; 256], keys: &'a [u64; 256], count: usize, x: u64) -> Shares
-    requires { ⌜ Asked (now weights) count x ⌝ }
-    ensures { λ r. ⌜ r .lots ≡ sharesOf (now (keys .entry)) (now (weights .entry)) count x ⌝ }
+// No lots for anyone.
+fn clear(lots: &mut [u64], count: usize)
+    requires { ⌜ count ≤ length (now lots) ⌝ }
+    ensures { λ r. ⌜ now (lots .exit) ≡ over (map (λ i. 0) (upTo count)) (now (lots .entry)) ⌝ }
 {
-    let mut lots = [0u64; 256];
-    if x == 0 {
-        return Shares { lots: lots };
+    let mut i: usize = 0;
+    while i < count {
+        lots[i] = 0;
+        i += 1;
     }
-    let sum = total(weights, count);
-    let spare = x - spread(weights, count, x, sum, &mut lots);
-    let last = find_last(&mut lots, keys, count, spare, sum);
-    settle(weights, keys, count, x, sum, last, &mut lots);
-    Shares { lots: lots }
+}
+
+// Puts the shares of x into the first `count` places of `lots`; `sum` is the sum of the weights.
+pub fn divide(weights: &[u64], keys: &[u64], count: usize, x: u64, sum: u64, lots: &mut [u64])
+    requires { ⌜ Lent (now weights) (now keys) (now lots) count x sum ⌝ }
+    ensures { λ r. ⌜ now (lots .exit) ≡ sharesOver (now (keys .entry)) (now (weights .entry)) count x (now (lots .entry)) ⌝ }
+{
+    if x == 0 {
+        clear(lots, count);
+        return;
+    }
+    let spare = x - spread(weights, count, x, sum, lots);
+    let last = find_last(lots, keys, count, spare, sum);
+    settle(weights, keys, count, x, sum, last, lots);
 }

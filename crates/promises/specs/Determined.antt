@@ -18,10 +18,9 @@ use Rattle.rules.specs.declared.Position.{Position}
 use Rattle.rules.specs.declared.Standing.{Standing}
 use Rattle.rules.specs.Figures.{figureOf, openingOf}
 use Rattle.rules.specs.Fields.{fieldsOf}
-use Rattle.rules.specs.Book.{Coded, Refused, judge, net, netLong}
+use Rattle.rules.specs.Book.{Coded, Customer, Verdict, Refused, Accepted, judge, net, netLong}
 use Rattle.rules.specs.Standing.{standingAt, countedPending}
 use Rattle.rules.specs.Division.{sumOf}
-use Rattle.rules.specs.Cascade.{pendingOf}
 use Rattle.rules.specs.Report.{digits, letter, reported, printed, listingOf, listing}
 use Rattle.rules.specs.Answer.{answer}
 use Rattle.rules.specs.Answer.{Answer as Answer01}
@@ -41,22 +40,19 @@ use Rattle.trades.specs.declared.TradesAt.{TradesAt}
 use Rattle.trades.specs.Trades.{tradesFrom, oldestFrom}
 use Rattle.group.specs.declared.GroupAt.{GroupAt}
 use Rattle.group.specs.Group.{groupAt}
-use Rattle.division.specs.declared.Shares.{Shares}
-use Rattle.division.specs.Shares.{at, sharesOf}
+use Rattle.division.specs.Shares.{sharesOver}
 use Rattle.cascade.specs.declared.Cascade.{Cascade}
-use Rattle.cascade.specs.State.{linesOf, afterTier, afterAll}
+use Rattle.cascade.specs.Columns.{Columns}
+use Rattle.cascade.specs.State.{afterTier, afterAll, stakeAt}
 use Rattle.writing.specs.Written.{Wrote}
 use Rattle.writing.specs.Shown.{shown}
 use Rattle.entries.specs.Entries.{reportHead, reportedLength}
 use Rattle.printing.specs.Printed.{listedHead}
 use Rattle.roll.specs.declared.Roll.{Roll}
-use Rattle.roll.specs.Roll.{rollOf}
-use Rattle.report.specs.declared.Lines.{Lines}
-use Rattle.report.specs.Lines.{reportBytes, listingBytes}
+use Rattle.roll.specs.Roll.{Held, Rolled}
+use Rattle.report.specs.Sheet.{Sheet, sheet, reportBytes, listingBytes}
 use Rattle.allotment.specs.declared.Answer.{Answer}
-use Rattle.allotment.specs.declared.Worked.{Worked}
 use Rattle.allotment.specs.Answered.{Answered, Listed}
-use Rattle.allotment.specs.Worked.{workedOf}
 
 -- any two results that a contract allows are equal
 abbrev pub Determined : {R : Type 0} → (R → Type 0) → Type 0
@@ -143,21 +139,18 @@ pub read-group : (book : List ℕ) (terms : Terms) (place from : ℕ) →
 read-group book terms place from r q e f = e [] ∙ sym (f [])
 
 -- division
-pub total : (weights : List ℕ) (count : ℕ) → Determined (λ (r : ℕ). r ≡ sumOf (at weights) (upTo count))
-total weights count = named (sumOf (at weights) (upTo count))
+pub divide : (weights keys lots : List ℕ) (count x : ℕ) → Determined (λ (after : List ℕ). after ≡ sharesOver keys weights count x lots)
+divide weights keys lots count x = named (sharesOver keys weights count x lots)
 
-pub divide : (weights keys : List ℕ) (count x : ℕ) → Determined (λ (r : Shares). r .lots ≡ sharesOf keys weights count x)
-divide weights keys count x r q e f = ap (λ lots. record { lots = lots }) (e ∙ sym f)
+-- cascade: `weights` and `lots`, which `tier` is lent to work in, are left as they come
+pub tier : (k : ℕ) (c : Columns) (st : Cascade) → Determined (λ (r : Cascade). r ≡ afterTier k c st)
+tier k c st = named (afterTier k c st)
 
--- cascade
-pub tier : (k : ℕ) (st : Cascade) → Determined (λ (r : Cascade). r ≡ afterTier k st)
-tier k st = named (afterTier k st)
+pub run : (c : Columns) (st : Cascade) → Determined (λ (r : Cascade). r ≡ afterAll c st)
+run c st = named (afterAll c st)
 
-pub run : (st : Cascade) → Determined (λ (r : Cascade). r ≡ afterAll st)
-run st = named (afterAll st)
-
-pub owed : (st : Cascade) → Determined (λ (r : ℕ). r ≡ sumOf pendingOf (linesOf st))
-owed st = named (sumOf pendingOf (linesOf st))
+pub owed : (standings stakes : List ℕ) (count : ℕ) → Determined (λ (r : ℕ). r ≡ sumOf (stakeAt 0 standings stakes) (upTo count))
+owed standings stakes count = named (sumOf (stakeAt 0 standings stakes) (upTo count))
 
 -- writing
 pub put-byte : (entry : List ℕ) (at b : ℕ) → Determined (λ (r : Left ℕ). Wrote at (b ∷ []) entry (r .exit) (r .result))
@@ -208,24 +201,34 @@ pub put-refusal : (entry : List ℕ) (number place : ℕ) →
     Determined (λ (r : Left ℕ). Wrote 0 (listingOf (Refused number place)) entry (r .exit) (r .result))
 put-refusal entry number place = wrote 0 (listingOf (Refused number place)) entry
 
--- roll
-pub read-roll : (book : List ℕ) → Determined (λ (r : Roll). r ≡ rollOf book)
-read-roll book = named (rollOf book)
+-- roll: the refusal; of an accepted book how many customers, and their keys, standings and stakes in the columns' first places
+-- (a customer's place in the book is any behind which its code stands)
+pub read-roll : (book keys starts standings stakes keys′ starts′ standings′ stakes′ : List ℕ) (r q : Roll) →
+    Rolled book (judge book) keys starts standings stakes r → Rolled book (judge book) keys′ starts′ standings′ stakes′ q → r .refusal ≡ q .refusal
+read-roll book keys starts standings stakes keys′ starts′ standings′ stakes′ r q e f = go (judge book) e f
+  where
+    go : (v : Verdict) → Rolled book v keys starts standings stakes r → Rolled book v keys′ starts′ standings′ stakes′ q → r .refusal ≡ q .refusal
+    go (Refused n place) e f = e ∙ sym f
+    go (Accepted terms cs) e f = e .0 ∙ sym (f .0)
+
+pub held : (book : List ℕ) (terms : Terms) (cs : List Customer) (keys starts standings stakes keys′ starts′ standings′ stakes′ : List ℕ) (n m : ℕ) →
+    Held book terms cs keys starts standings stakes n → Held book terms cs keys′ starts′ standings′ stakes′ m →
+    (n ≡ m) × (take n keys ≡ take m keys′) × (take n standings ≡ take m standings′) × (take n stakes ≡ take m stakes′)
+held book terms cs keys starts standings stakes keys′ starts′ standings′ stakes′ n m e f =
+    (e .counted ∙ sym (f .counted), e .keyed ∙ sym (f .keyed), e .stood ∙ sym (f .stood), e .staked ∙ sym (f .staked))
 
 -- report
-pub report-length : (l : Lines) → Determined (λ (r : ℕ). r ≡ length (reportBytes l))
-report-length l = named (length (reportBytes l))
+pub report-length : (book starts offset : List ℕ) (count total residue : ℕ) →
+    Determined (λ (r : ℕ). ((standings : List ℕ) → r ≡ length (reportBytes (sheet book starts standings offset count total residue))))
+report-length book starts offset count total residue r q e f = e [] ∙ sym (f [])
 
-pub put-report : (entry : List ℕ) (l : Lines) → Determined (λ (r : Left ℕ). Wrote 0 (reportBytes l) entry (r .exit) (r .result))
+pub put-report : (entry : List ℕ) (l : Sheet) → Determined (λ (r : Left ℕ). Wrote 0 (reportBytes l) entry (r .exit) (r .result))
 put-report entry l = wrote 0 (reportBytes l) entry
 
-pub put-listing : (entry : List ℕ) (l : Lines) → Determined (λ (r : Left ℕ). Wrote 0 (listingBytes l) entry (r .exit) (r .result))
+pub put-listing : (entry : List ℕ) (l : Sheet) → Determined (λ (r : Left ℕ). Wrote 0 (listingBytes l) entry (r .exit) (r .result))
 put-listing entry l = wrote 0 (listingBytes l) entry
 
 -- allotment
-pub work-out : (book : List ℕ) → Determined (λ (r : Worked). r ≡ workedOf (judge book))
-work-out book = named (workedOf (judge book))
-
 answered : (a : Answer01) (entry : List ℕ) → Determined (λ (r : Left Answer). Answered a (r .result) entry (r .exit))
 answered a entry r q e f =
     left r q

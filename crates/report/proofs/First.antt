@@ -10,28 +10,27 @@ use native.Mathlib.Numerals.{add-one}
 use native.Mathlib.Omega.{arith}
 use lib.ListN.{length, getD, take, drop, length-append, length-drop}
 use lib.Seq.{length-take-le}
+use Rattle.rules.specs.declared.Standing.{Standing}
 use Rattle.rules.specs.Cascade.{Line}
 use Rattle.rules.specs.Division.{sumOf}
 use Rattle.rules.specs.Report.{joined}
 use Rattle.laws.specs.Sums.{upTo, sum-upTo}
 use Rattle.laws.specs.Indices.{map-more}
-use Rattle.cascade.specs.State.{rowAt}
-use Rattle.cascade.specs.declared.Row.{Row}
 use Rattle.writing.specs.Shown.{shown, joined-append}
 use Rattle.writing.specs.Written.{Room, Wrote, join}
+use Rattle.report.specs.Sheet.{sizeAt, codeAt, Code}
 
--- the code of customer i and its line, over the arrays that the code has in hand
-abbrev pub codeIn : List ℕ → List ℕ → ℕ → List ℕ
-codeIn sizes codes i = take (getD sizes i 0) (drop (12 * i) codes)
+-- a code has as many bytes as its field says
+pub code-length : (book starts : List ℕ) (i : ℕ) → Code book starts i → length (codeAt book starts i) ≡ sizeAt book starts i
+code-length book starts i c = length-take-le (sizeAt book starts i) (drop (getD starts i 0) book) (simp length-drop (omega (arith, c .inside)))
 
-abbrev pub lineIn : List ℕ → List ℕ → List Row → ℕ → Line
-lineIn sizes codes rows i = let r = rowAt rows i in shown (codeIn sizes codes i) (r .standing) (r .offset)
-
-pub code-length : (sizes codes : List ℕ) (i : ℕ) → length codes ≡ 3072 → i < 256 → getD sizes i 0 ≤ 12 → length (codeIn sizes codes i) ≡ getD sizes i 0
-code-length sizes codes i whole few short = length-take-le (getD sizes i 0) (drop (12 * i) codes) (simp length-drop (omega arith))
-
-pub size-back : (start size : ℕ) → start + size - start ≡ size
+size-back : (start size : ℕ) → start + size - start ≡ size
 size-back start size = omega arith
+
+-- a line with the numbers that the code holds
+pub line-same : (book : List ℕ) (start n : ℕ) {size size′ : ℕ} {s s′ : Standing} → size′ ≡ size → s′ ≡ s →
+    shown (take (start + size′ - start) (drop start book)) s′ n ≡ shown (take size (drop start book)) s n
+line-same book start n {size} e f = rw (e, f, size-back start size)
 
 module _ (f : Line → List ℕ) (g : ℕ → Line) where
   unfoldable pub first : ℕ → List ℕ

@@ -1,21 +1,33 @@
-// The report and the listing of an accepted book, from its lines.
-use cascade::Row;
+// The report and the listing of an accepted book: the codes stand in the book, and the rest in the customers' columns.
+use rules::Standing;
 ghost use mathlib.Core.Path.{_≡_};
-ghost use Prim.Native.Nat.{_≤_};
-ghost use lib.ListN.{length};
+ghost use mathlib.Core.List.{List};
+ghost use Prim.Native.Nat.{ℕ, _-_, _≤_, _<_};
+ghost use lib.ListN.{length, getD};
+ghost use Rattle.cascade.specs.Columns.{standingOf};
 ghost use Rattle.writing.specs.Written.{Room, Wrote};
 ghost use Rattle.entries.specs.Entries.{reportedLength};
-ghost use Rattle.report.specs.Lines.{reportBytes, listingBytes, Ready};
+ghost use Rattle.report.specs.Sheet.{sheet, reportBytes, listingBytes, Placed};
 
-// What is reported of a book: the total, the residue, and for each customer, in book order, its code in a block of 12 bytes, the
-// code's length, and its row.
-pub struct Lines {
-    pub count: usize,
-    pub sizes: [u8; 256],
-    pub codes: [u8; 3072],
-    pub rows: [Row; 256],
-    pub total: u64,
-    pub residue: u64,
+// The standing of a byte.
+fn standing_of(byte: u8) -> Standing
+    ensures { λ r. ⌜ r ≡ standingOf byte ⌝ }
+{
+    match byte {
+        0 => Standing::Pending,
+        1 => Standing::Tier1,
+        2 => Standing::Tier2,
+        3 => Standing::Tier3,
+        _ => Standing::Neither,
+    }
+}
+
+// The size of a code, whose value starts at a place: the low byte of its field's length.
+fn size_at(book: &[u8], start: usize) -> usize
+    requires { ⌜ (0 < start) × (start ≤ length (now book)) ⌝ }
+    ensures { λ r. ⌜ r ≡ getD (now (book .entry)) (start - 1) 0 ⌝ }
+{
+    book[start - 1] as usize
 }
 
 // How many bytes a customer takes in a report: at most 42, so that the sum of 256 fits.
@@ -26,66 +38,79 @@ fn line_length(size: usize, offset: u64) -> usize
     entries::reported_length(size, offset)
 }
 
-// How many bytes the report takes.
-pub fn report_length(l: Lines) -> usize
-    requires { ⌜ Ready l ⌝ }
-    ensures { λ r. ⌜ r ≡ length (reportBytes l) ⌝ }
+// How many bytes the report takes, whatever the standings.
+pub fn report_length(
+    book: &[u8],
+    starts: &[u16],
+    offset: &[u32],
+    count: usize,
+    total: u64,
+    residue: u64,
+) -> usize
+    requires { ⌜ Placed (now book) (now starts) (now offset) count ⌝ }
+    ensures { λ r. ⌜ ((standings : List ℕ) → r ≡ length (reportBytes (sheet (now (book .entry)) (now (starts .entry)) standings (now (offset .entry)) count total residue))) ⌝ }
 {
-    let count = l.count;
-    let sizes = l.sizes;
-    let rows = l.rows;
-    let mut n = entries::head_length(l.total, l.residue);
+    let mut n = entries::head_length(total, residue);
     let mut i: usize = 0;
     while i < count {
-        let row = rows[i];
-        n += line_length(sizes[i] as usize, row.offset as u64);
+        n += line_length(size_at(book, starts[i] as usize), offset[i] as u64);
         i += 1;
     }
     n
 }
 
 // The report, from the front of the buffer on.
-pub fn put_report(out: &mut [u8], l: Lines) -> usize
-    requires { ⌜ Ready l ⌝ }
-    requires { ⌜ Room 0 (reportBytes l) (now out) ⌝ }
-    ensures { λ r. ⌜ Wrote 0 (reportBytes l) (now (out .entry)) (now (out .exit)) r ⌝ }
+pub fn put_report(
+    out: &mut [u8],
+    book: &[u8],
+    starts: &[u16],
+    standings: &[u8],
+    offset: &[u32],
+    count: usize,
+    total: u64,
+    residue: u64,
+) -> usize
+    requires { ⌜ Placed (now book) (now starts) (now offset) count ⌝ }
+    requires { ⌜ count ≤ length (now standings) ⌝ }
+    requires { ⌜ Room 0 (reportBytes (sheet (now book) (now starts) (now standings) (now offset) count total residue)) (now out) ⌝ }
+    ensures { λ r. ⌜ Wrote 0 (reportBytes (sheet (now (book .entry)) (now (starts .entry)) (now (standings .entry)) (now (offset .entry)) count total residue)) (now (out .entry)) (now (out .exit)) r ⌝ }
 {
-    let count = l.count;
-    let sizes = l.sizes;
-    let codes = l.codes;
-    let rows = l.rows;
-    let mut at = entries::put_head(out, l.total, l.residue);
-    let mut customer: usize = 0;
-    while customer < count {
-        let row = rows[customer];
-        let standing = row.standing;
-        let start = 12 * customer;
-        let end = start + sizes[customer] as usize;
-        at = entries::put_reported(out, at, &codes[start..end], standing, row.offset as u64);
-        customer += 1;
+    let mut at = entries::put_head(out, total, residue);
+    let mut i: usize = 0;
+    while i < count {
+        let start = starts[i] as usize;
+        let end = start + size_at(book, start);
+        let standing = standing_of(standings[i]);
+        at = entries::put_reported(out, at, &book[start..end], standing, offset[i] as u64);
+        i += 1;
     }
     at
 }
 
 // The listing, from the front of the buffer on.
-pub fn put_listing(out: &mut [u8], l: Lines) -> usize
-    requires { ⌜ Ready l ⌝ }
-    requires { ⌜ Room 0 (listingBytes l) (now out) ⌝ }
-    ensures { λ r. ⌜ Wrote 0 (listingBytes l) (now (out .entry)) (now (out .exit)) r ⌝ }
+pub fn put_listing(
+    out: &mut [u8],
+    book: &[u8],
+    starts: &[u16],
+    standings: &[u8],
+    offset: &[u32],
+    count: usize,
+    total: u64,
+    residue: u64,
+) -> usize
+    requires { ⌜ Placed (now book) (now starts) (now offset) count ⌝ }
+    requires { ⌜ count ≤ length (now standings) ⌝ }
+    requires { ⌜ Room 0 (listingBytes (sheet (now book) (now starts) (now standings) (now offset) count total residue)) (now out) ⌝ }
+    ensures { λ r. ⌜ Wrote 0 (listingBytes (sheet (now (book .entry)) (now (starts .entry)) (now (standings .entry)) (now (offset .entry)) count total residue)) (now (out .entry)) (now (out .exit)) r ⌝ }
 {
-    let count = l.count;
-    let sizes = l.sizes;
-    let codes = l.codes;
-    let rows = l.rows;
-    let mut at = printing::put_printed_head(out, l.total, l.residue);
-    let mut line: usize = 0;
-    while line < count {
-        let row = rows[line];
-        let standing = row.standing;
-        let start = 12 * line;
-        let end = start + sizes[line] as usize;
-        at = printing::put_printed(out, at, &codes[start..end], standing, row.offset as u64);
-        line += 1;
+    let mut at = printing::put_printed_head(out, total, residue);
+    let mut i: usize = 0;
+    while i < count {
+        let start = starts[i] as usize;
+        let end = start + size_at(book, start);
+        let standing = standing_of(standings[i]);
+        at = printing::put_printed(out, at, &book[start..end], standing, offset[i] as u64);
+        i += 1;
     }
     at
 }

@@ -1,5 +1,4 @@
 // The roll: all customers of a book, or its refusal.
-use cascade::Row;
 use codes::Code;
 use fields::Found;
 use fields::Refusal;
@@ -15,17 +14,13 @@ ghost use Rattle.rules.specs.Fields.{fieldsOf};
 ghost use Rattle.codes.specs.Codes.{Marked};
 ghost use Rattle.fields.specs.Ranges.{Short};
 ghost use Rattle.terms.specs.Ranges.{Sound};
-ghost use Rattle.roll.specs.Roll.{noRoll, codeAt, customerAt, endAt, rollFrom, rollOf};
+ghost use Rattle.rules.specs.Book.{judge};
+ghost use Rattle.roll.specs.Roll.{noRoll, byteOf, stakeAs, codeAt, customerAt, endAt, verdictFrom, Room, Rolled};
 
-// Either a refusal, or number 0 and the customers: how many, their codes in blocks of 12 bytes with their lengths, their keys
-// and their rows.
+// Either a refusal, or number 0 and how many customers the columns hold.
 pub struct Roll {
     pub refusal: Refusal,
     pub count: usize,
-    pub keys: [u64; 256],
-    pub sizes: [u8; 256],
-    pub codes: [u8; 3072],
-    pub rows: [Row; 256],
 }
 
 // The key of a new customer.
@@ -34,19 +29,16 @@ pub enum CodeAt {
     Refused(Refusal),
 }
 
-// A new customer: its key, where its group ends, and its row.
+// A new customer: its key, where its group ends, its standing's byte and its stake.
 pub enum CustomerAt {
-    New { key: u64, place: usize, row: Row },
+    New {
+        key: u64,
+        place: usize,
+        standing: u8,
+        stake: u32,
+    },
     Refused(Refusal),
 }
-
-// No customer's row: its bytes are all 0, so that many are set at once.
-const BLANK: Row = Row {
-    standing: Standing::Pending,
-    offered: 0,
-    pending: 0,
-    offset: 0,
-};
 
 fn refused(number: u64, place: usize) -> Roll
     ensures { λ r. ⌜ r ≡ noRoll number place ⌝ }
@@ -54,17 +46,38 @@ fn refused(number: u64, place: usize) -> Roll
     Roll {
         refusal: Refusal { number, place },
         count: 0,
-        keys: [0u64; 256],
-        sizes: [0u8; 256],
-        codes: [0u8; 3072],
-        rows: [BLANK; 256],
+    }
+}
+
+fn byte_of(standing: Standing) -> u8
+    ensures { λ r. ⌜ r ≡ byteOf standing ⌝ }
+{
+    match standing {
+        Standing::Pending => 0,
+        Standing::Tier1 => 1,
+        Standing::Tier2 => 2,
+        Standing::Tier3 => 3,
+        Standing::Neither => 4,
+    }
+}
+
+// What a customer has at stake: what it offers, or what it has pending.
+fn stake_of(standing: Standing, offered: u32, pending: u32) -> u32
+    ensures { λ r. ⌜ r ≡ stakeAs standing offered pending ⌝ }
+{
+    match standing {
+        Standing::Pending => pending,
+        Standing::Tier1 => offered,
+        Standing::Tier2 => offered,
+        Standing::Tier3 => offered,
+        Standing::Neither => 0,
     }
 }
 
 // 10, 5 and 7 at a C, whose value stands from start to end.
 fn code_at(
     book: &[u8],
-    keys: &[u64; 256],
+    keys: &[u64],
     marks: &[u8; 4096],
     count: usize,
     at: usize,
@@ -101,7 +114,7 @@ fn code_at(
 fn customer_at(
     book: &[u8],
     terms: Terms,
-    keys: &[u64; 256],
+    keys: &[u64],
     marks: &[u8; 4096],
     count: usize,
     at: usize,
@@ -121,12 +134,8 @@ fn customer_at(
             } => CustomerAt::New {
                 key,
                 place,
-                row: Row {
-                    standing,
-                    offered,
-                    pending,
-                    offset: 0,
-                },
+                standing: byte_of(standing),
+                stake: stake_of(standing, offered, pending),
             },
             GroupAt::Refused(r) => CustomerAt::Refused(r),
         },
@@ -156,16 +165,20 @@ fn end_at(book: &[u8], at: usize, start: usize, end: usize) -> Refusal
     }
 }
 
-// The customers of a book under its terms, from a place on.
-fn read_customers(book: &[u8], terms: Terms, first: usize) -> Roll
-    requires { ⌜ Short (now book) ⌝ ∗ ⌜ Sound terms ⌝ }
-    ensures { λ r. ⌜ r ≡ rollFrom terms first (fieldsOf (drop first (now (book .entry)))) ⌝ }
+// The customers of a book under its terms, from a place on, into the columns.
+fn read_customers(
+    book: &[u8],
+    terms: Terms,
+    first: usize,
+    keys: &mut [u64],
+    starts: &mut [u16],
+    standings: &mut [u8],
+    stakes: &mut [u32],
+) -> Roll
+    requires { ⌜ Short (now book) ⌝ ∗ ⌜ Sound terms ⌝ ∗ ⌜ Room (now keys) (now starts) (now standings) (now stakes) ⌝ }
+    ensures { λ r. ⌜ Rolled (now (book .entry)) (verdictFrom terms first (fieldsOf (drop first (now (book .entry))))) (now (keys .exit)) (now (starts .exit)) (now (standings .exit)) (now (stakes .exit)) r ⌝ }
 {
-    let mut keys = [0u64; 256];
     let mut marks = [0u8; 4096];
-    let mut sizes = [0u8; 256];
-    let mut codes = [0u8; 3072];
-    let mut rows = [BLANK; 256];
     let mut count: usize = 0;
     let mut at = first;
     loop {
@@ -174,29 +187,27 @@ fn read_customers(book: &[u8], terms: Terms, first: usize) -> Roll
         };
         if tag == b'Z' {
             let last = end_at(book, at, start, end);
-            if last.number != 0 {
-                return refused(last.number, last.place);
-            }
             return Roll {
                 refusal: last,
                 count,
-                keys,
-                sizes,
-                codes,
-                rows,
             };
         }
         if tag != b'C' {
             return refused(3, at);
         }
-        match customer_at(book, terms, &keys, &marks, count, at, start, end) {
-            CustomerAt::New { key, place, row } => {
-                writing::put_bytes(&mut codes, 12 * count, &book[start..end]);
+        match customer_at(book, terms, keys, &marks, count, at, start, end) {
+            CustomerAt::New {
+                key,
+                place,
+                standing,
+                stake,
+            } => {
                 keys[count] = key;
                 let mark = codes::mark_of(key);
                 marks[mark] = 1;
-                sizes[count] = (end - start) as u8;
-                rows[count] = row;
+                starts[count] = start as u16;
+                standings[count] = standing;
+                stakes[count] = stake;
                 count += 1;
                 at = place;
             }
@@ -205,15 +216,24 @@ fn read_customers(book: &[u8], terms: Terms, first: usize) -> Roll
     }
 }
 
-// All customers of a book, or its refusal with numbers 1 to 10.
-pub fn read_roll(book: &[u8]) -> Roll
-    ensures { λ r. ⌜ r ≡ rollOf (now (book .entry)) ⌝ }
+// All customers of a book, into the columns, or its refusal with numbers 1 to 10.
+pub fn read_roll(
+    book: &[u8],
+    keys: &mut [u64],
+    starts: &mut [u16],
+    standings: &mut [u8],
+    stakes: &mut [u32],
+) -> Roll
+    requires { ⌜ Room (now keys) (now starts) (now standings) (now stakes) ⌝ }
+    ensures { λ r. ⌜ Rolled (now (book .entry)) (judge (now (book .entry))) (now (keys .exit)) (now (starts .exit)) (now (standings .exit)) (now (stakes .exit)) r ⌝ }
 {
     if rules::LONGEST_BOOK < book.len() {
         return refused(1, 0);
     }
     match terms::read_terms(book) {
-        TermsAt::Read { terms, next } => read_customers(book, terms, next),
+        TermsAt::Read { terms, next } => {
+            read_customers(book, terms, next, keys, starts, standings, stakes)
+        }
         TermsAt::Refused(r) => refused(r.number, r.place),
     }
 }

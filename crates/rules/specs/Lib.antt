@@ -1,5 +1,7 @@
 -- Document 01 as definitions, a file for each of its parts, in its order; then its cases, computed.
 pub mod Text
+pub mod Refusal
+pub mod Limits
 pub mod Figures
 pub mod Codes
 pub mod Fields

@@ -1,4 +1,6 @@
 // The types of the paper: what document 01 names, and its limits. The rules themselves are definitions, in specs/.
+pub mod refusal;
+pub mod tag;
 
 // A price. "Prices are in fen, positions in lots and rates in thousandths of a percent": three types, so that an edge
 // cannot be handed in as a price.

@@ -1,21 +1,35 @@
--- `allotment::allot` meets its contract: what the book comes to is its answer.
+-- What the book comes to is its answer.
 -- Assumes nothing.
-use mathlib.Core.Path.{_≡_, sym}
-use mathlib.Core.List.{List}
 use Rattle.allotment.proofs.Calls.{Stops, stops, Goes, goes, refused-so}
 use borrow.Author.Needs.{needs}
 use Rattle.allotment.proofs.allot.Statement.{statement}
 use Rattle.allotment.proofs.allot.Tie as tie
-use Rattle.allotment.proofs.allot.Reads as reads
-use Rattle.allotment.proofs.allot.Lts as lts
-use Rattle.allotment.proofs.report_lines.Reads as report-lines-reads
-use Rattle.allotment.proofs.work_out.Reads as work-out-reads
 
-stopped : (c : tie.Then1) → Stops (c .before .before .before .before .before .before .args .book .now) (c .before .before .before .work-out .result) (c .before .before .before .work-out .ensures)
-stopped c = stops _ _ _ (c .if1 .taken)
+abbrev came : tie.After-struct-known → tie.After-work-out
+came k = k .before .before .before .before .before .before
 
-gone : (c : tie.Else1) → Goes (c .before .before .before .before .before .before .args .book .now) (c .before .before .before .work-out .result) (c .before .before .before .work-out .ensures)
-gone c = goes _ _ _ (c .if1 .left)
+abbrev begin : tie.After-work-out → tie.Start
+begin w = w .before .before .before .before .before .before .before
+
+stopped : (c : tie.Then1) → let w = came (c .before) in let l = w .work-out .last .1 .1 in
+    Stops (begin w .args .book .now) (l .0) (l .1 .0) (w .work-out .result) (w .work-out .ensures)
+stopped c = let w = came (c .before) in let l = w .work-out .last .1 .1 in stops (begin w .args .book .now) (l .0) (l .1 .0) (w .work-out .result) (w .work-out .ensures) (c .if1 .taken)
+
+gone : (c : tie.Else1) → let w = came (c .before) in let l = w .work-out .last .1 .1 in
+    Goes (begin w .args .book .now) (l .0) (l .1 .0) (w .work-out .result) (w .work-out .ensures)
+gone c = let w = came (c .before) in let l = w .work-out .last .1 .1 in goes (begin w .args .book .now) (l .0) (l .1 .0) (w .work-out .result) (w .work-out .ensures) (c .if1 .left)
+
+slice-aggregate-work-out : tie.Need-slice-aggregate-work-out
+slice-aggregate-work-out c = search needs
+
+slice-aggregate-work-out-2 : tie.Need-slice-aggregate-work-out-2
+slice-aggregate-work-out-2 c = search needs
+
+slice-aggregate-work-out-3 : tie.Need-slice-aggregate-work-out-3
+slice-aggregate-work-out-3 c = search needs
+
+slice-aggregate-work-out-4 : tie.Need-slice-aggregate-work-out-4
+slice-aggregate-work-out-4 c = search needs
 
 work-out-requires : tie.Need-work-out-requires
 work-out-requires c κs = search needs
@@ -23,15 +37,37 @@ work-out-requires c κs = search needs
 returns : tie.Need-returns
 returns c = rw (stopped c .answers _) (refused-so _ _ _)
 
+slice-aggregate-report-lines : tie.Need-slice-aggregate-report-lines
+slice-aggregate-report-lines c = search needs
+
+slice-aggregate-report-lines-2 : tie.Need-slice-aggregate-report-lines-2
+slice-aggregate-report-lines-2 c = search needs
+
+slice-aggregate-report-lines-3 : tie.Need-slice-aggregate-report-lines-3
+slice-aggregate-report-lines-3 c = search needs
+
 report-lines-requires : tie.Need-report-lines-requires
-report-lines-requires c κs = gone (c .before .before) .whole
+report-lines-requires c κs = let g = gone (c .before .before .before .before .before) in (g .placed, g .stood)
 
 same-length : tie.Need-same-length
 same-length c = search needs
 
 returns-2 : tie.Need-returns-2
-returns-2 c = let p = c .before .before in rw (gone (p .before .before .before) .answers _) (p .report-lines .ensures)
+returns-2 c = let p = c .before .before in rw (gone (p .before .before .before .before .before .before) .answers _) (p .report-lines .ensures)
 
 pub allot-spec : {M : Type 1} → statement M
 allot-spec =
-    tie.close (tie.spec work-out-requires returns report-lines-requires same-length returns-2)
+    tie.close
+    (tie.spec
+    slice-aggregate-work-out
+    slice-aggregate-work-out-2
+    slice-aggregate-work-out-3
+    slice-aggregate-work-out-4
+    work-out-requires
+    returns
+    slice-aggregate-report-lines
+    slice-aggregate-report-lines-2
+    slice-aggregate-report-lines-3
+    report-lines-requires
+    same-length
+    returns-2)

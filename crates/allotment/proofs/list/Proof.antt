@@ -1,7 +1,7 @@
--- `allotment::list` meets its contract: what the book comes to is its listing, and 8,192 bytes are enough for every one.
+-- What the book comes to is its listing, and 8,192 bytes are enough for every one.
 -- Assumes nothing.
-use Prim.Native.Nat.{ℕ, _^_, _<_, _≤_}
-use mathlib.Core.Path.{_≡_, sym, ap, _∙_}
+use Prim.Native.Nat.{ℕ, _≤_}
+use mathlib.Core.Path.{_∙_}
 use native.Mathlib.Omega.{arith}
 use native.Mathlib.Nat.{zero-add}
 use lib.ListN.{length}
@@ -11,28 +11,32 @@ use Rattle.rules.specs.Book.{Refused}
 use Rattle.rules.specs.Report.{listingOf}
 use Rattle.laws.specs.Digits.{digits-length-20}
 use Rattle.printing.specs.Printed.{refusal-length}
-use Rattle.report.specs.Lines.{listingBytes}
 use Rattle.allotment.proofs.Calls.{Stops, stops, Goes, goes}
-use Rattle.allotment.proofs.Space.{listing-room}
 use borrow.Author.Needs.{needs}
 use Rattle.allotment.proofs.list.Statement.{statement}
 use Rattle.allotment.proofs.list.Tie as tie
-use Rattle.allotment.proofs.list.Reads as reads
-use Rattle.allotment.proofs.list.Lts as lts
-use Rattle.allotment.proofs.work_out.Reads as work-out-reads
-use Rattle.report.proofs.put_listing.Reads as put-listing-reads
-use Rattle.printing.proofs.put_refusal.Reads as put-refusal-reads
 
--- a refusal
+abbrev came : tie.After-struct-known → tie.After-work-out
+came k = k .before .before .before .before .before .before
+
+abbrev begin : tie.After-work-out → tie.Start
+begin w = w .before .before .before .before .before .before .before
+
+stopped : (c : tie.Then1) → let w = came (c .before) in let l = w .work-out .last .1 .1 in
+    Stops (begin w .args .book .now) (l .0) (l .1 .0) (w .work-out .result) (w .work-out .ensures)
+stopped c = let w = came (c .before) in let l = w .work-out .last .1 .1 in stops (begin w .args .book .now) (l .0) (l .1 .0) (w .work-out .result) (w .work-out .ensures) (c .if1 .taken)
+
+gone : (c : tie.Else1) → let w = came (c .before) in let l = w .work-out .last .1 .1 in
+    Goes (begin w .args .book .now) (l .0) (l .1 .0) (w .work-out .result) (w .work-out .ensures)
+gone c = let w = came (c .before) in let l = w .work-out .last .1 .1 in goes (begin w .args .book .now) (l .0) (l .1 .0) (w .work-out .result) (w .work-out .ensures) (c .if1 .left)
+
+-- a refusal is a short line
 module _ (c : tie.Then1) where
   abbrev number : ℕ
-  number = c .before .before .before .work-out .result .refusal .number
+  number = came (c .before) .work-out .result .refusal .number
 
   abbrev place : ℕ
-  place = c .before .before .before .work-out .result .refusal .place
-
-  stopped : Stops (c .before .before .before .before .before .before .args .book .now) (c .before .before .before .work-out .result) (c .before .before .before .work-out .ensures)
-  stopped = stops _ _ _ (c .if1 .taken)
+  place = came (c .before) .work-out .result .refusal .place
 
   number-fits : Fits w64 number
   number-fits = search needs
@@ -43,43 +47,78 @@ module _ (c : tie.Then1) where
   short : length (listingOf (Refused number place)) ≤ 8192
   short = omega (arith, refusal-length number place, digits-length-20 number (omega (arith, number-fits)), digits-length-20 place (omega (arith, place-fits)))
 
--- an accepted book
-module _ (c : tie.Else1) where
-  gone : Goes (c .before .before .before .before .before .before .args .book .now) (c .before .before .before .work-out .result) (c .before .before .before .work-out .ensures)
-  gone = goes _ _ _ (c .if1 .left)
+slice-aggregate-work-out : tie.Need-slice-aggregate-work-out
+slice-aggregate-work-out c = search needs
 
-  room : length (listingBytes (c .before .before .before .work-out .result .lines)) ≤ 8192
-  room = rw (gone .lines) (listing-room (gone .terms) (gone .customers) (gone .sane) (rw (gone .lines) at (gone .whole)))
+slice-aggregate-work-out-2 : tie.Need-slice-aggregate-work-out-2
+slice-aggregate-work-out-2 c = search needs
+
+slice-aggregate-work-out-3 : tie.Need-slice-aggregate-work-out-3
+slice-aggregate-work-out-3 c = search needs
+
+slice-aggregate-work-out-4 : tie.Need-slice-aggregate-work-out-4
+slice-aggregate-work-out-4 c = search needs
 
 work-out-requires : tie.Need-work-out-requires
 work-out-requires c κs = search needs
 
 put-refusal-requires : tie.Need-put-refusal-requires
-put-refusal-requires c κs = let t = c .before in omega (arith, short t, t .before .before .before .before .before .before .pre)
+put-refusal-requires c κs = let t = c .before in omega (arith, short t, begin (came (t .before)) .pre)
 
 same-length : tie.Need-same-length
 same-length c = search needs
 
 returns : tie.Need-returns
-returns c = let p = c .before .before in let t = p .before .before in let s = t .before .before .before .before .before .before in rw (stopped t .lists) (record { buffer = p .put-refusal .ensures .whole; size = p .put-refusal .ensures .next ∙ zero-add _; room = omega (arith, short t, s .pre, p .put-refusal .ensures .next) })
+returns c =
+    let p = c .before .before in
+    let t = p .before .before in
+    rw (stopped t .lists) (record {
+      buffer = p .put-refusal .ensures .whole;
+      size = p .put-refusal .ensures .next ∙ zero-add _;
+      room = omega (arith, short t, begin (came (t .before)) .pre, p .put-refusal .ensures .next);
+    })
+
+slice-aggregate-put-listing : tie.Need-slice-aggregate-put-listing
+slice-aggregate-put-listing c = search needs
+
+slice-aggregate-put-listing-2 : tie.Need-slice-aggregate-put-listing-2
+slice-aggregate-put-listing-2 c = search needs
+
+slice-aggregate-put-listing-3 : tie.Need-slice-aggregate-put-listing-3
+slice-aggregate-put-listing-3 c = search needs
 
 put-listing-requires : tie.Need-put-listing-requires
-put-listing-requires c κs = let e = c .before .before in (gone e .whole, omega (arith, room e, e .before .before .before .before .before .before .pre))
+put-listing-requires c κs = let e = c .before .before .before .before .before in let g = gone e in (g .placed, (g .stood, omega (arith, g .short, begin (came (e .before)) .pre)))
 
 same-length-2 : tie.Need-same-length-2
 same-length-2 c = search needs
 
 returns-2 : tie.Need-returns-2
-returns-2 c = let p = c .before .before in let e = p .before .before .before in let s = e .before .before .before .before .before .before in rw (gone e .lists) (record { buffer = p .put-listing .ensures .whole; size = p .put-listing .ensures .next ∙ zero-add _; room = omega (arith, room e, s .pre, p .put-listing .ensures .next) })
+returns-2 c =
+    let p = c .before .before in
+    let e = p .before .before .before .before .before .before in
+    let g = gone e in
+    rw (g .lists) (record {
+      buffer = p .put-listing .ensures .whole;
+      size = p .put-listing .ensures .next ∙ zero-add _;
+      room = omega (arith, g .short, begin (came (e .before)) .pre, p .put-listing .ensures .next);
+    })
 
 pub list-spec : {M : Type 1} → statement M
 list-spec =
     tie.close
     (tie.spec
+    slice-aggregate-work-out
+    slice-aggregate-work-out-2
+    slice-aggregate-work-out-3
+    slice-aggregate-work-out-4
     work-out-requires
     put-refusal-requires
     same-length
     returns
+    slice-aggregate-put-listing
+    slice-aggregate-put-listing-2
+    slice-aggregate-put-listing-3
     put-listing-requires
     same-length-2
     returns-2)

@@ -1,28 +1,30 @@
--- `allotment::report_lines` meets its contract: 11 where the report is longer than the buffer.
+-- 11 where the report is longer than the buffer.
 -- Assumes nothing.
+use Prim.Native.Nat.{ℕ}
+use mathlib.Core.List.{List}
 use native.Mathlib.Omega.{arith}
-use Rattle.report.specs.Lines.{reportBytes}
+use Rattle.report.specs.Sheet.{sheet, reportBytes}
 use Rattle.allotment.proofs.Calls.{too-small, fits}
 use borrow.Author.Needs.{needs}
 use Rattle.allotment.proofs.report_lines.Statement.{statement}
 use Rattle.allotment.proofs.report_lines.Tie as tie
-use Rattle.allotment.proofs.report_lines.Reads as reads
-use Rattle.allotment.proofs.report_lines.Lts as lts
-use Rattle.report.proofs.put_report.Reads as put-report-reads
-use Rattle.report.proofs.report_length.Reads as report-length-reads
+
+abbrev start : tie.After-report-length → tie.Start
+start l = l .before .before .before .before .before .before
+
+abbrev bytes : tie.After-report-length → List ℕ
+bytes l =
+    let a = start l .args in
+    reportBytes (sheet (a .book .now) (a .starts .now) (a .standings .now) (a .offset .now) (a .count) (a .total) (a .residue))
 
 report-length-requires : tie.Need-report-length-requires
 report-length-requires c κs = search needs
 
 returns : tie.Need-returns
-returns c =
-    let a = c .before .before .before .args in
-    too-small (reportBytes (a .lines)) (a .report .now) (c .before .report-length .result) (c .before .report-length .ensures) (c .if1 .taken)
+returns c = let l = c .before in let a = start l .args in too-small (bytes l) (a .report .now) (l .report-length .result) (l .report-length .ensures (a .standings .now)) (c .if1 .taken)
 
 put-report-requires : tie.Need-put-report-requires
-put-report-requires c κs =
-    let e = c .before in
-    (e .before .before .before .pre, omega (arith, e .if1 .left, e .before .report-length .ensures))
+put-report-requires c κs = let e = c .before in let l = e .before in let s = start l in (s .pre .0, (s .pre .1, omega (arith, e .if1 .left, l .report-length .ensures (s .args .standings .now))))
 
 same-length : tie.Need-same-length
 same-length c = search needs
@@ -31,8 +33,9 @@ returns-2 : tie.Need-returns-2
 returns-2 c =
     let p = c .before .before in
     let e = p .before .before in
-    let a = e .before .before .before .args in
-    fits (reportBytes (a .lines)) (a .report .now) _ (p .put-report .result) (omega (arith, e .if1 .left, e .before .report-length .ensures)) (p .put-report .ensures .whole) (p .put-report .ensures .next)
+    let l = e .before in
+    let a = start l .args in
+    fits (bytes l) (a .report .now) _ (p .put-report .result) (omega (arith, e .if1 .left, l .report-length .ensures (a .standings .now))) (p .put-report .ensures .whole) (p .put-report .ensures .next)
 
 pub report-lines-spec : {M : Type 1} → statement M
 report-lines-spec =

@@ -1,55 +1,97 @@
--- `allotment::work_out` meets its contract: a roll with number 0 is an accepted book's.
+-- A roll with number 0 is an accepted book's, and the cascade over its columns is the outcome.
 -- Assumes nothing.
-use Prim.Native.Nat.{_≤_}
-use mathlib.Core.Path.{_≡_, ap, _∙_}
+use Prim.Native.Nat.{ℕ}
+use mathlib.Core.Path.{refl}
+use mathlib.Core.List.{List}
 use native.Mathlib.Omega.{arith}
-use Rattle.cascade.specs.After.{steady-wider}
-use Rattle.fields.specs.declared.Refusal.{Refusal}
-use Rattle.report.specs.declared.Lines.{Lines}
-use Rattle.allotment.proofs.Accepts.{Accepts, accepts, refuses, steady, worked}
+use Rattle.roll.specs.Roll.{Room}
+use Rattle.allotment.proofs.Calls.{refuses, Accepts, accepts, steady, closes}
 use borrow.Author.Needs.{needs}
 use Rattle.allotment.proofs.work_out.Statement.{statement}
 use Rattle.allotment.proofs.work_out.Tie as tie
-use Rattle.allotment.proofs.work_out.Reads as reads
-use Rattle.allotment.proofs.work_out.Lts as lts
-use Rattle.allotment.proofs.less.Reads as less-reads
-use Rattle.allotment.proofs.no_lines.Reads as no-lines-reads
-use Rattle.cascade.proofs.Cascade.owed.Reads as owed-reads
-use Rattle.cascade.proofs.Cascade.run.Reads as run-reads
-use Rattle.roll.proofs.read_roll.Reads as read-roll-reads
 
-accepted : (c : tie.Else1) → Accepts (c .before .before .before .before .before .args .book .now) (c .before .before .before .read-roll .result)
-accepted c = accepts _ _ (c .before .before .before .read-roll .ensures) (c .if1 .left)
+abbrev start : tie.After-read-roll → tie.Start
+start r = r .before .before .before .before .before .before .before .before .before .before
+
+-- the roll was read, and its columns are back
+abbrev rolled : tie.After-struct-known → tie.After-read-roll
+rolled k = k .before .before .before .before .before .before .before .before .before .before
+
+abbrev keys : tie.After-read-roll → List ℕ
+keys r = r .read-roll .last .1 .0
+
+abbrev starts : tie.After-read-roll → List ℕ
+starts r = r .read-roll .last .1 .1 .0
+
+abbrev standings : tie.After-read-roll → List ℕ
+standings r = r .read-roll .last .1 .1 .1 .0
+
+abbrev stakes : tie.After-read-roll → List ℕ
+stakes r = r .read-roll .last .1 .1 .1 .1 .0
+
+wide : (k : tie.After-struct-known) → let r = rolled k in Room (keys r) (starts r) (standings r) (stakes r)
+wide k =
+    let p = start (rolled k) .pre in
+    record { for-keys = omega (arith, p .for-keys); for-starts = omega (arith, p .for-starts); for-standings = omega (arith, p .for-standings); for-stakes = omega (arith, p .for-stakes) }
+
+accepted : (e : tie.Else1) → let r = rolled (e .before) in
+    Accepts (start r .args .book .now) (keys r) (starts r) (standings r) (stakes r) (r .read-roll .result) (r .read-roll .ensures)
+accepted e = let r = rolled (e .before) in
+    accepts (start r .args .book .now) (keys r) (starts r) (standings r) (stakes r) (r .read-roll .result) (r .read-roll .ensures) (e .if1 .left)
 
 read-roll-requires : tie.Need-read-roll-requires
 read-roll-requires c κs = search needs
 
-no-lines-requires : tie.Need-no-lines-requires
-no-lines-requires c κs = search needs
+same-length : tie.Need-same-length
+same-length c = search needs
+
+same-length-2 : tie.Need-same-length-2
+same-length-2 c = search needs
+
+same-length-3 : tie.Need-same-length-3
+same-length-3 c = search needs
+
+same-length-4 : tie.Need-same-length-4
+same-length-4 c = search needs
 
 returns : tie.Need-returns
-returns c = let r = c .before .before .before .before in ap (λ (l : Lines). record { refusal = r .read-roll .result .refusal; lines = l }) (c .no-lines .ensures) ∙ refuses _ _ (r .read-roll .ensures) (c .before .if1 .taken)
+returns c = let r = rolled (c .before) in refuses (start r .args .book .now) (keys r) (starts r) (standings r) (stakes r) (r .read-roll .result) (r .read-roll .ensures) _ refl (c .if1 .taken)
 
-owed-requires : tie.Need-owed-requires
-owed-requires c κs = steady-wider (omega arith) (steady (accepted (c .before .before .before .before)))
+close-requires : tie.Need-close-requires
+close-requires c κs = let e = c .before .before .before in let r = rolled (e .before) in steady (start r .args .book .now) (keys r) (starts r) (standings r) (stakes r) (r .read-roll .result) (r .read-roll .ensures) (accepted e) (wide (e .before))
 
-run-requires : tie.Need-run-requires
-run-requires c κs = steady (accepted (c .before .before .before .before .before))
+same-length-5 : tie.Need-same-length-5
+same-length-5 c = search needs
 
-less-requires : tie.Need-less-requires
-less-requires c κs = search needs
+same-length-6 : tie.Need-same-length-6
+same-length-6 c = search needs
+
+same-length-7 : tie.Need-same-length-7
+same-length-7 c = search needs
+
+same-length-8 : tie.Need-same-length-8
+same-length-8 c = search needs
 
 returns-2 : tie.Need-returns-2
-returns-2 c = let r = c .before .before in worked (accepted (r .before .before .before .before .before .before)) (r .before .owed .result) (r .run .result) (c .less .result) (r .before .owed .ensures) (r .run .ensures) (c .less .ensures)
+returns-2 c =
+    let d = c .before in
+    let e = d .before .before .before .before in
+    let r = rolled (e .before) in
+    closes (start r .args .book .now) (keys r) (starts r) (standings r) (stakes r) (r .read-roll .result) (r .read-roll .ensures) (accepted e) (wide (e .before)) (d .close .result) (d .close .ensures) _ refl
 
 pub work-out-spec : {M : Type 1} → statement M
 work-out-spec =
     tie.close
     (tie.spec
     read-roll-requires
-    no-lines-requires
+    same-length
+    same-length-2
+    same-length-3
+    same-length-4
     returns
-    owed-requires
-    run-requires
-    less-requires
+    close-requires
+    same-length-5
+    same-length-6
+    same-length-7
+    same-length-8
     returns-2)

@@ -22,8 +22,8 @@ loop-holds c = (omega arith, refl)
 mul-found : tie.Need-mul-found Inv-loop μ-loop
 mul-found c = search needs
 
-element-copy-out-found : tie.Need-element-copy-out-found Inv-loop μ-loop
-element-copy-out-found c = search needs
+shared-slice-read-found : tie.Need-shared-slice-read-found Inv-loop μ-loop
+shared-slice-read-found c = search needs
 
 add-passed : tie.Need-add-passed Inv-loop μ-loop
 add-passed c = search needs
@@ -49,7 +49,7 @@ given-spec =
     μ-loop
     loop-holds
     mul-found
-    element-copy-out-found
+    shared-slice-read-found
     add-passed
     loop-less
     loop-again

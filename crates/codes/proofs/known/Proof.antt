@@ -16,13 +16,13 @@ mark-of-requires : tie.Need-mark-of-requires
 mark-of-requires c κs = search needs
 
 element-copy-out-if1 : tie.Need-element-copy-out-if1
-element-copy-out-if1 c = omega (arith, mark-below (c .before .args .key), c .mark-of .ensures)
+element-copy-out-if1 c = omega (arith, mark-below (c .before .before .args .key), c .mark-of .ensures)
 
 returns : tie.Need-returns
 returns c =
     let m = c .before .before in
-    let a = m .before .args in
-    sym (not-given (a .keys .now) (a .marks .now) (a .count) (a .key) (m .before .pre .1) (ap (λ i. getD (a .marks .now) i 0) (sym (m .mark-of .ensures)) ∙ c .if1 .taken))
+    let a = m .before .before .args in
+    sym (not-given (a .keys .now) (a .marks .now) (a .count) (a .key) (m .before .before .pre .1) (ap (λ i. getD (a .marks .now) i 0) (sym (m .mark-of .ensures)) ∙ c .if1 .taken))
 
 given-requires : tie.Need-given-requires
 given-requires c κs = search needs

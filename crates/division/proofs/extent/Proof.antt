@@ -16,11 +16,11 @@ Inv-loop values count least₀ most₀ i₀ least most i = (i ≤ count) × ((le
 abbrev μ-loop : tie.MeasureT-loop
 μ-loop values count least₀ most₀ i₀ least most i = count - i
 
-element-copy-out-least : tie.Need-element-copy-out-least Inv-loop μ-loop
-element-copy-out-least c = search needs
+shared-slice-read-least : tie.Need-shared-slice-read-least Inv-loop μ-loop
+shared-slice-read-least c = search needs
 
-element-copy-out-most : tie.Need-element-copy-out-most Inv-loop μ-loop
-element-copy-out-most c = search needs
+shared-slice-read-most : tie.Need-shared-slice-read-most Inv-loop μ-loop
+shared-slice-read-most c = search needs
 
 loop-holds : tie.Need-loop-holds Inv-loop μ-loop
 loop-holds c = search needs
@@ -28,8 +28,8 @@ loop-holds c = search needs
 mul-lesser : tie.Need-mul-lesser Inv-loop μ-loop
 mul-lesser c = search needs
 
-element-copy-out-lesser : tie.Need-element-copy-out-lesser Inv-loop μ-loop
-element-copy-out-lesser c = search needs
+shared-slice-read-lesser : tie.Need-shared-slice-read-lesser Inv-loop μ-loop
+shared-slice-read-lesser c = search needs
 
 lesser-requires : tie.Need-lesser-requires Inv-loop μ-loop
 lesser-requires c κs = search needs
@@ -37,8 +37,8 @@ lesser-requires c κs = search needs
 mul-greater : tie.Need-mul-greater Inv-loop μ-loop
 mul-greater c = search needs
 
-element-copy-out-greater : tie.Need-element-copy-out-greater Inv-loop μ-loop
-element-copy-out-greater c = search needs
+shared-slice-read-greater : tie.Need-shared-slice-read-greater Inv-loop μ-loop
+shared-slice-read-greater c = search needs
 
 greater-requires : tie.Need-greater-requires Inv-loop μ-loop
 greater-requires c κs = search needs
@@ -53,7 +53,7 @@ loop-again : tie.Need-loop-again Inv-loop μ-loop
 loop-again c = rw add-one (omega arith, (omega arith, omega arith))
 
 returns : tie.Need-returns Inv-loop μ-loop
-returns c = let e : c .before .loop .i ≡ c .before .before .before .before .args .count = omega arith in (cc, cc)
+returns c = let e : c .before .loop .i ≡ c .before .before .before .before .before .args .count = omega arith in (cc, cc)
 
 pub extent-spec : {M : Type 1} → statement M
 extent-spec =
@@ -61,14 +61,14 @@ extent-spec =
     (tie.spec
     Inv-loop
     μ-loop
-    element-copy-out-least
-    element-copy-out-most
+    shared-slice-read-least
+    shared-slice-read-most
     loop-holds
     mul-lesser
-    element-copy-out-lesser
+    shared-slice-read-lesser
     lesser-requires
     mul-greater
-    element-copy-out-greater
+    shared-slice-read-greater
     greater-requires
     add-i
     loop-less

@@ -25,8 +25,8 @@ loop-holds c = search needs
 mul-n : tie.Need-mul-n Inv-loop μ-loop
 mul-n c = search needs
 
-element-copy-out-n : tie.Need-element-copy-out-n Inv-loop μ-loop
-element-copy-out-n c = search needs
+shared-slice-read-n : tie.Need-shared-slice-read-n Inv-loop μ-loop
+shared-slice-read-n c = search needs
 
 cast-n : tie.Need-cast-n Inv-loop μ-loop
 cast-n c = tt
@@ -61,7 +61,7 @@ reached-spec =
     μ-loop
     loop-holds
     mul-n
-    element-copy-out-n
+    shared-slice-read-n
     cast-n
     add-n
     add-i

@@ -1,57 +1,73 @@
--- `report::put_report` meets its contract. Behind the head stand the lines before i, and the next line joins them.
+-- Behind the head stand the lines before i, and the next line joins them.
 -- Assumes nothing.
-use Prim.Native.Nat.{_+_, _-_, _*_, _≤_}
-use mathlib.Core.Path.{_≡_, refl, sym}
+use Prim.Native.Nat.{_+_, _-_, _≤_}
+use mathlib.Core.Path.{_≡_, refl, sym, ap, subst}
+use mathlib.Core.List.{_++_}
 use native.Mathlib.Omega.{arith}
 use borrow.Author.Needs.{needs}
-use mathlib.Core.List.{_++_}
 use lib.ListN.{length, getD, length-append}
-use Rattle.entries.specs.Entries.{reportHead}
+use Rattle.rules.specs.Cascade.{Line}
 use Rattle.rules.specs.Report.{reported}
+use Rattle.entries.specs.Entries.{reportHead}
 use Rattle.writing.specs.Written.{Room, Wrote, join, written-nothing}
-use Rattle.report.specs.Lines.{lineAt, reportBytes}
-use Rattle.report.proofs.First.{lineIn, first, piece-room, piece-joins, size-back, code-length}
+use Rattle.report.specs.Sheet.{Sheet, sheet, lineAt, reportBytes, Code}
+use Rattle.report.proofs.First.{first, piece-room, piece-joins, code-length, line-same}
 use Rattle.report.proofs.put_report.Statement.{statement}
 use Rattle.report.proofs.put_report.Tie as tie
 
 abbrev Inv-loop : tie.InvT-loop
-Inv-loop out₀ count sizes codes rows at₀ i₀ out at i = (i ≤ count) × (length out ≡ length out₀) × Wrote at₀ (first reported (lineIn sizes codes rows) i) out₀ out at
+Inv-loop out₀ book starts standings offset count total residue at₀ i₀ out at i =
+    (i ≤ count) × (length out ≡ length out₀) × Wrote at₀ (first reported (lineAt (sheet book starts standings offset count total residue)) i) out₀ out at
 
 abbrev μ-loop : tie.MeasureT-loop
-μ-loop out₀ count sizes codes rows at₀ i₀ out at i = count - i
+μ-loop out₀ book starts standings offset count total residue at₀ i₀ out at i = count - i
+
+abbrev start : tie.At-loop Inv-loop μ-loop → tie.Start Inv-loop μ-loop
+start b = b .before .before .before .before .before .before .before .before .before .before
+
+abbrev all : tie.Start Inv-loop μ-loop → Sheet
+all s = let a = s .args in sheet (a .book .now) (a .starts .now) (a .standings .now) (a .offset .now) (a .count) (a .total) (a .residue)
 
 -- the head and the customers fit
-room : (c : tie.Start Inv-loop μ-loop) → let l = c .args .l in
-    Room 0 (reportHead (l .total) (l .residue) ++ first reported (lineAt l) (l .count)) (c .args .out .now)
+room : (s : tie.Start Inv-loop μ-loop) → Room 0 (reportHead (s .args .total) (s .args .residue) ++ first reported (lineAt (all s)) (s .args .count)) (s .args .out .now)
 unfolding reportBytes first
-room c = c .pre .1
+room s = s .pre .1 .1
+
+head-room : (s : tie.Start Inv-loop μ-loop) → length (reportHead (s .args .total) (s .args .residue)) ≤ length (s .args .out .now)
+head-room s = omega (arith, room s, length-append (reportHead (s .args .total) (s .args .residue)) (first reported (lineAt (all s)) (s .args .count)))
+
+abbrev here : (b : tie.At-loop Inv-loop μ-loop) → Type 0
+here b = Code (start b .args .book .now) (start b .args .starts .now) (b .loop .i)
 
 put-head-requires : tie.Need-put-head-requires Inv-loop μ-loop
-put-head-requires c κs =
-    let s = c .before .before .before .before .before in let l = s .args .l in
-    omega (arith, room s, length-append (reportHead (l .total) (l .residue)) (first reported (lineAt l) (l .count)))
+put-head-requires c κs = omega (arith, head-room (c .before .before .before .before .before .before))
 
 loop-holds : tie.Need-loop-holds Inv-loop μ-loop
 unfolding first
-loop-holds c = (search needs, refl, record { whole = sym (written-nothing (c .before .before .put-head .result) (c .before .before .put-head .last .0)); next = omega arith })
-
-mul-row : tie.Need-mul-row Inv-loop μ-loop
-mul-row c = search needs
-
-array-copy-out-row : tie.Need-array-copy-out-row Inv-loop μ-loop
-array-copy-out-row c = search needs
+loop-holds c =
+    let h = c .before .before .put-head in
+    (search needs, refl, record { whole = sym (written-nothing (h .result) (h .last .0)); next = omega arith })
 
 mul-start : tie.Need-mul-start Inv-loop μ-loop
 mul-start c = search needs
 
-array-read-end : tie.Need-array-read-end Inv-loop μ-loop
-array-read-end c = search needs
+shared-slice-read-start : tie.Need-shared-slice-read-start Inv-loop μ-loop
+shared-slice-read-start c = search needs
 
-cast-end : tie.Need-cast-end Inv-loop μ-loop
-cast-end c = search needs
+cast-start : tie.Need-cast-start Inv-loop μ-loop
+cast-start c = omega (arith, c .shared-slice-known5 .given (c .before .before .loop .i))
+
+size-at-requires : tie.Need-size-at-requires Inv-loop μ-loop
+size-at-requires c κs = let b = c .before .before in let z : here b = start b .pre .0 .code (b .loop .i) (omega arith) in (z .behind, omega (arith, z .inside))
 
 add-end : tie.Need-add-end Inv-loop μ-loop
-add-end c = let s = c .before .before .before .before .before .before .before .before .before .before .before in let i = c .before .before .loop .customer in omega (arith, s .pre .0 .few, s .pre .0 .short i (omega arith))
+add-end c = let b = c .before .before .before in let z : here b = start b .pre .0 .code (b .loop .i) (omega arith) in omega (arith, z .inside, z .short, c .size-at .ensures)
+
+shared-slice-read-standing-of : tie.Need-shared-slice-read-standing-of Inv-loop μ-loop
+shared-slice-read-standing-of c = search needs
+
+standing-of-requires : tie.Need-standing-of-requires Inv-loop μ-loop
+standing-of-requires c κs = search needs
 
 sub-put-reported : tie.Need-sub-put-reported Inv-loop μ-loop
 sub-put-reported c = omega arith
@@ -60,48 +76,47 @@ part-put-reported-start : tie.Need-part-put-reported-start Inv-loop μ-loop
 part-put-reported-start c = search needs
 
 part-put-reported-end : tie.Need-part-put-reported-end Inv-loop μ-loop
-part-put-reported-end c =
-    let s = c .before .before .before .before .before .before .before .before .before .before .before .before .before in
-    let i = c .before .before .before .before .loop .customer in
-    let size : length (s .args .l .codes) ≡ 3072 = search needs in
-    let short : getD (s .args .l .sizes) i 0 ≤ 12 = s .pre .0 .short i (omega arith) in
-    let ends : 12 * i + getD (s .args .l .sizes) i 0 ≤ length (s .args .l .codes) = omega (arith, s .pre .0 .few, size, short) in
-    ends
+part-put-reported-end c = let b = c .before .before .before .before .before .before in let z : here b = start b .pre .0 .code (b .loop .i) (omega arith) in omega (arith, z .inside, c .before .before .before .size-at .ensures)
+
+mul-put-reported : tie.Need-mul-put-reported Inv-loop μ-loop
+mul-put-reported c = search needs
+
+shared-slice-read-put-reported : tie.Need-shared-slice-read-put-reported Inv-loop μ-loop
+shared-slice-read-put-reported c = search needs
 
 cast-put-reported : tie.Need-cast-put-reported Inv-loop μ-loop
-cast-put-reported c = search needs
+cast-put-reported c = omega (arith, c .shared-slice-known7 .given (c .before .before .before .before .before .before .before .before .loop .i))
 
 put-reported-requires : tie.Need-put-reported-requires Inv-loop μ-loop
 put-reported-requires c κs =
-    let b = c .before .before .before .before .before .before in
-    let h = b .before .before .before in
-    let s = h .before .before .before .before .before .before in
-    let l = s .args .l in
-    let i = b .loop .customer in
-    rw (size-back (12 * i) (getD (l .sizes) i 0)) (
-      omega (arith, code-length (l .sizes) (l .codes) i (search needs) (omega (arith, s .pre .0 .few)) (s .pre .0 .short i (omega arith)), s .pre .0 .short i (omega arith)),
-      piece-room reported (lineAt l) (l .count) i (h .put-head .ensures) (b .loop .inv .2) (room s) (omega arith) (omega arith),
+    let b = c .before .before .before .before .before .before .before .before in
+    let s = start b in
+    let i = b .loop .i in
+    let e = line-same (s .args .book .now) (getD (s .args .starts .now) i 0) (getD (s .args .offset .now) i 0) (c .before .before .before .before .before .size-at .ensures) (c .before .before .before .standing-of .ensures) in
+    let z : here b = s .pre .0 .code i (omega arith) in (
+      omega (arith, ap (λ (l : Line). length (l .code)) e, code-length (s .args .book .now) (s .args .starts .now) i z, z .short),
+      subst (λ (l : Line). Room (b .loop .at) (reported l) (b .loop .out)) (sym e) (piece-room reported (lineAt (all s)) (s .args .count) i (b .before .before .before .put-head .ensures) (b .loop .inv .2) (room s) (omega arith) (omega arith)),
     )
 
-add-customer : tie.Need-add-customer Inv-loop μ-loop
-add-customer c = search needs
+add-i : tie.Need-add-i Inv-loop μ-loop
+add-i c = search needs
 
 loop-less : tie.Need-loop-less Inv-loop μ-loop
 loop-less c = search needs
 
 -- one line more is at most all
-next : (d : tie.In-loop Inv-loop μ-loop) → d .before .loop .customer + 1 ≤ d .before .before .before .before .before .before .before .before .before .before .args .l .count
+next : (d : tie.In-loop Inv-loop μ-loop) → d .before .loop .i + 1 ≤ start (d .before) .args .count
 next d = search needs
 
 loop-again : tie.Need-loop-again Inv-loop μ-loop
 loop-again c =
-    let b = c .before .before .before .before .before .before .before .before .before in
-    let h = b .before .before .before in
-    let s = h .before .before .before .before .before .before in
-    let l = s .args .l in
-    let i = b .loop .customer in
-    let put = rw (size-back (12 * i) (getD (l .sizes) i 0)) at (c .before .before .put-reported .ensures) in
-    (next (c .before .before .before .before .before .before .before .before), omega arith, piece-joins reported (lineAt l) i (b .loop .inv .2) put (omega (arith, room s, h .put-head .ensures .next, length-append (reportHead (l .total) (l .residue)) (first reported (lineAt l) (l .count)))))
+    let b = c .before .before .before .before .before .before .before .before .before .before .before in
+    let s = start b in
+    let i = b .loop .i in
+    let e = line-same (s .args .book .now) (getD (s .args .starts .now) i 0) (getD (s .args .offset .now) i 0) (c .before .before .before .before .before .before .before .before .size-at .ensures) (c .before .before .before .before .before .before .standing-of .ensures) in
+    let w = c .before .before .put-reported in
+    let put = subst (λ (l : Line). Wrote (b .loop .at) (reported l) (b .loop .out) (w .last .0) (w .result)) e (w .ensures) in
+    (next (c .before .before .before .before .before .before .before .before .before .before), omega arith, piece-joins reported (lineAt (all s)) i (b .loop .inv .2) put (omega (arith, head-room s, b .before .before .before .put-head .ensures .next)))
 
 same-length : tie.Need-same-length Inv-loop μ-loop
 same-length c = search needs
@@ -111,9 +126,8 @@ unfolding reportBytes first
 returns c =
     let b = c .before in
     let h = b .before .before .before in
-    let s = h .before .before .before .before .before .before in
-    let l = s .args .l in
-    let e : b .loop .customer ≡ l .count = omega arith in
+    let s = start b in
+    let e : b .loop .i ≡ s .args .count = omega arith in
     join (h .put-head .ensures) (rw e at (b .loop .inv .2)) (omega arith)
 
 pub put-report-spec : {M : Type 1} → statement M
@@ -124,18 +138,21 @@ put-report-spec =
     μ-loop
     put-head-requires
     loop-holds
-    mul-row
-    array-copy-out-row
     mul-start
-    array-read-end
-    cast-end
+    shared-slice-read-start
+    cast-start
+    size-at-requires
     add-end
+    shared-slice-read-standing-of
+    standing-of-requires
     sub-put-reported
     part-put-reported-start
     part-put-reported-end
+    mul-put-reported
+    shared-slice-read-put-reported
     cast-put-reported
     put-reported-requires
-    add-customer
+    add-i
     loop-less
     loop-again
     same-length

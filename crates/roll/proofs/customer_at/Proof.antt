@@ -1,14 +1,11 @@
--- `roll::customer_at` meets its contract: the code, and then the group.
+-- The code, and then the group.
 -- Assumes nothing.
 use mathlib.Core.Path.{sym, ap₂, _∙_}
-use borrow.Author.Needs.{needs}
+use Rattle.roll.specs.declared.CustomerAt.the-variants.{New as NewCustomer}
 use Rattle.roll.specs.Roll.{customerOf}
+use borrow.Author.Needs.{needs}
 use Rattle.roll.proofs.customer_at.Statement.{statement}
 use Rattle.roll.proofs.customer_at.Tie as tie
-use Rattle.roll.proofs.customer_at.Reads as reads
-use Rattle.roll.proofs.customer_at.Lts as lts
-use Rattle.group.proofs.read_group.Reads as read-group-reads
-use Rattle.roll.proofs.code_at.Reads as code-at-reads
 
 code-at-requires : tie.Need-code-at-requires
 code-at-requires c κs = search needs
@@ -22,6 +19,12 @@ read-group-requires c κs = search needs
 enum-known-place : tie.Need-enum-known-place
 enum-known-place c = search needs
 
+byte-of-requires : tie.Need-byte-of-requires
+byte-of-requires c κs = search needs
+
+stake-of-requires : tie.Need-stake-of-requires
+stake-of-requires c κs = search needs
+
 enum-known-r : tie.Need-enum-known-r
 enum-known-r c = search needs
 
@@ -30,8 +33,9 @@ enum-known-r-2 c = search needs
 
 returns : tie.Need-returns
 returns c =
-    let p = c .before in let g = p .before .before in let k = g .before .before in
-    sym (ap₂ customerOf (sym (k .before .before .code-at .ensures) ∙ k .key .given .1) (sym (g .read-group .ensures _) ∙ p .place .given .1))
+    let p = c .before .before .before in let g = p .before .before in let k = g .before .before in
+    ap₂ (NewCustomer (k .key .given .0 .0) (p .place .given .0 .0)) (c .before .byte-of .ensures) (c .stake-of .ensures)
+    ∙ sym (ap₂ customerOf (sym (k .before .before .code-at .ensures) ∙ k .key .given .1) (sym (g .read-group .ensures _) ∙ p .place .given .1))
 
 returns-2 : tie.Need-returns-2
 returns-2 c =
@@ -49,6 +53,8 @@ customer-at-spec =
     enum-known-key
     read-group-requires
     enum-known-place
+    byte-of-requires
+    stake-of-requires
     enum-known-r
     enum-known-r-2
     returns

@@ -1,44 +1,35 @@
--- `roll::read_customers` meets its contract. The loop's invariant: the arrays hold the customers read so far, and the walk over the book is
--- the walk from here on with these customers; and the keys have their marks.
+-- The loop's invariant: the columns hold the customers read so far, and the walk over the book is the walk from here on with these
+-- customers; the keys have their marks; and the columns are as long as they were.
 -- Assumes nothing.
 use borrow.Author.Needs.{needs}
-use Prim.Native.Nat.{ℕ, _+_, _-_, _*_, _≤_, _<_}
+use Prim.Native.Nat.{ℕ, _+_, _-_, _≤_, _<_}
 use native.Mathlib.Omega.{arith}
 use mathlib.Core.Path.{_≡_, refl, sym, ap, subst, _∙_}
 use mathlib.Core.List.{List}
-use lib.ListN.{length, take, drop}
+use lib.ListN.{length, take, drop, length-set}
 use Rattle.rules.specs.Fields.{fieldsOf}
 use Rattle.codes.specs.Codes.{Marked}
 use Rattle.codes.proofs.Marks.{mark-below, marked-none, marked-more}
+use Rattle.fields.specs.declared.Found.the-variants.{Field as FieldAt}
+use Rattle.fields.specs.First.{firstAt}
 use Rattle.fields.specs.Laws.{Stands, stands}
-use Rattle.roll.proofs.Named.{code-length}
-use Rattle.roll.proofs.Turns.{
-  Between,
-  begun,
-  turn-short,
-  turn-other,
-  turn-refused,
-  turn-ended,
-  keys-length,
-  codes-length,
-}
-use Rattle.roll.proofs.Customer.{turn-no-customer, More, turn-customer}
+use Rattle.roll.specs.declared.Roll.{Roll}
+use Rattle.roll.specs.Roll.{Room, Rolled}
+use Rattle.roll.proofs.Turns.{Between, Lasting, begun, turn-short, turn-other, turn-ended}
+use Rattle.roll.proofs.Customer.{turn-no-customer, More, turn-customer, size-said}
 use Rattle.roll.proofs.read_customers.Statement.{statement}
 use Rattle.roll.proofs.read_customers.Tie as tie
-use Rattle.roll.proofs.read_customers.Reads as reads
-use Rattle.roll.proofs.read_customers.Lts as lts
-use Rattle.fields.proofs.field_at.Reads as field-at-reads
-use Rattle.roll.proofs.customer_at.Reads as customer-at-reads
-use Rattle.roll.proofs.end_at.Reads as end-at-reads
-use Rattle.roll.proofs.refused.Reads as refused-reads
-use Rattle.writing.proofs.put_bytes.Reads as put-bytes-reads
-use Rattle.codes.proofs.mark_of.Reads as mark-of-reads
 
 abbrev Inv-loop : tie.InvT-loop
-Inv-loop book terms first keys₀ marks₀ sizes₀ codes₀ rows₀ count₀ at₀ keys marks sizes codes rows count at = Between book terms first at count keys sizes codes rows × Marked keys marks count
+Inv-loop book terms first keys₀ starts₀ standings₀ stakes₀ marks₀ count₀ at₀ keys starts standings stakes marks count at =
+    Between book terms first at count keys starts standings stakes × Marked keys marks count × Lasting keys₀ starts₀ standings₀ stakes₀ keys starts standings stakes
 
 abbrev μ-loop : tie.MeasureT-loop
-μ-loop book terms first keys₀ marks₀ sizes₀ codes₀ rows₀ count₀ at₀ keys marks sizes codes rows count at = length book - at
+μ-loop book terms first keys₀ starts₀ standings₀ stakes₀ marks₀ count₀ at₀ keys starts standings stakes marks count at =
+    length book - at
+
+abbrev begin : tie.At-loop Inv-loop μ-loop → tie.Start Inv-loop μ-loop
+begin b = b .before .before .before .before .before .before
 
 -- the field of a turn
 module _ (c : tie.After-known-told Inv-loop μ-loop) where
@@ -46,7 +37,7 @@ module _ (c : tie.After-known-told Inv-loop μ-loop) where
   at-loop = c .before .before .before .before
 
   abbrev book : List ℕ
-  book = at-loop .before .before .args .book .now
+  book = begin at-loop .args .book .now
 
   abbrev tag : ℕ
   tag = c .before .tag .given .0 .0
@@ -57,8 +48,11 @@ module _ (c : tie.After-known-told Inv-loop μ-loop) where
   abbrev end : ℕ
   end = c .before .tag .given .0 .1 .1 .0
 
+  said : firstAt (at-loop .loop .at) (fieldsOf (drop (at-loop .loop .at) book)) ≡ FieldAt tag start end
+  said = sym (c .before .before .before .field-at .ensures) ∙ c .before .tag .given .1
+
   there : Stands book (at-loop .loop .at) tag start end
-  there = stands book (at-loop .loop .at) _ _ _ (sym (c .before .before .before .field-at .ensures) ∙ c .before .tag .given .1)
+  there = stands book (at-loop .loop .at) _ _ _ said
 
   order : start ≤ end
   order = there .order
@@ -76,9 +70,9 @@ module _ (c : tie.After-customer-at Inv-loop μ-loop) where
   field-of = c .before .before .before .before .before
 
   a-c : Stands (book field-of) (at-loop field-of .loop .at) 67 (start field-of) (end field-of)
-  a-c = as-tag field-of 67 (c .before .before .before .if3 .left)
+  a-c = as-tag field-of 67 (c .before .before .before .if2 .left)
 
--- a new customer, with the arrays that hold it too
+-- a new customer, with the columns that hold it too
 module _ (c : tie.After-key Inv-loop μ-loop) where
   abbrev asked : tie.After-customer-at Inv-loop μ-loop
   asked = c .before .before
@@ -89,17 +83,18 @@ module _ (c : tie.After-key Inv-loop μ-loop) where
   abbrev state : tie.At-loop Inv-loop μ-loop
   state = at-loop field-read
 
-  more : More (state .loop .inv .0) (a-c asked) (c .key .given .0 .0) (c .key .given .0 .1 .0) (c .key .given .0 .1 .1 .0)
-  more = turn-customer (state .loop .inv .0) (a-c asked) _ _ _ (sym (asked .customer-at .ensures) ∙ c .key .given .1)
+  more : More (state .loop .inv .0) (a-c asked) (c .key .given .0 .0) (c .key .given .0 .1 .0) (c .key .given .0 .1 .1 .0) (c .key .given .0 .1 .1 .1 .0)
+  more = turn-customer (state .loop .inv .0) (a-c asked) _ _ _ _ (size-said (book field-read) (state .loop .at) (tag field-read) (start field-read) (end field-read) (said field-read)) (sym (asked .customer-at .ensures) ∙ c .key .given .1)
 
   room : state .loop .count < 256
   room = more .room
 
-  short : end field-read - start field-read ≤ 12
-  short = omega (arith, code-length _ (more .code), there field-read .size)
+  -- there is room in each column
+  wide : Room (state .loop .keys) (state .loop .starts) (state .loop .standings) (state .loop .stakes)
+  wide = state .loop .inv .0 .room
 
 loop-holds : tie.Need-loop-holds Inv-loop μ-loop
-loop-holds c = (begun (c .before .args .book .now) (c .before .args .terms) (c .before .args .first), marked-none _)
+loop-holds c = let s = c .before .before .before .before .before in (begun (s .args .book .now) (s .args .terms) (s .args .first) (s .pre .1 .1), marked-none _, record { keys-last = refl; starts-last = refl; standings-last = refl; stakes-last = refl })
 
 field-at-requires : tie.Need-field-at-requires Inv-loop μ-loop
 field-at-requires c κs = search needs
@@ -113,110 +108,146 @@ enum-told c = search needs
 refused-requires : tie.Need-refused-requires Inv-loop μ-loop
 refused-requires c κs = search needs
 
+same-length : tie.Need-same-length Inv-loop μ-loop
+same-length c = c .before .before .before .before .loop .inv .2 .keys-last
+
+same-length-2 : tie.Need-same-length-2 Inv-loop μ-loop
+same-length-2 c = c .before .before .before .before .loop .inv .2 .starts-last
+
+same-length-3 : tie.Need-same-length-3 Inv-loop μ-loop
+same-length-3 c = c .before .before .before .before .loop .inv .2 .standings-last
+
+same-length-4 : tie.Need-same-length-4 Inv-loop μ-loop
+same-length-4 c = c .before .before .before .before .loop .inv .2 .stakes-last
+
 returns : tie.Need-returns Inv-loop μ-loop
-returns c = let f = c .before .before .before in c .refused .ensures ∙ sym (turn-short (f .before .loop .inv .0) (sym (f .field-at .ensures) ∙ c .before .enum-told .given .1))
+returns c = let f = c .before .before .before in let b = f .before in subst (λ v. Rolled (begin b .args .book .now) v (b .loop .keys) (b .loop .starts) (b .loop .standings) (b .loop .stakes) (c .refused .result)) (sym (turn-short (b .loop .inv .0) (sym (f .field-at .ensures) ∙ c .before .enum-told .given .1))) (ap (λ (r : Roll). r .refusal) (c .refused .ensures))
 
 end-at-requires : tie.Need-end-at-requires Inv-loop μ-loop
 end-at-requires c κs = search needs
 
+same-length-5 : tie.Need-same-length-5 Inv-loop μ-loop
+same-length-5 c = at-loop (c .before .before) .loop .inv .2 .keys-last
+
+same-length-6 : tie.Need-same-length-6 Inv-loop μ-loop
+same-length-6 c = at-loop (c .before .before) .loop .inv .2 .starts-last
+
+same-length-7 : tie.Need-same-length-7 Inv-loop μ-loop
+same-length-7 c = at-loop (c .before .before) .loop .inv .2 .standings-last
+
+same-length-8 : tie.Need-same-length-8 Inv-loop μ-loop
+same-length-8 c = at-loop (c .before .before) .loop .inv .2 .stakes-last
+
+returns-2 : tie.Need-returns-2 Inv-loop μ-loop
+returns-2 c = let k = c .before .before in turn-ended (at-loop k .loop .inv .0) (as-tag k 90 (c .before .if1 .taken)) (c .end-at .result) (c .end-at .ensures)
+
 refused-requires-2 : tie.Need-refused-requires-2 Inv-loop μ-loop
 refused-requires-2 c κs = search needs
 
-returns-2 : tie.Need-returns-2 Inv-loop μ-loop
-returns-2 c = let e = c .before .before .before in let k = e .before .before in c .refused2 .ensures ∙ sym (turn-refused (at-loop k .loop .inv .0) (as-tag k 90 (e .before .if1 .taken)) (e .end-at .result) (e .end-at .ensures) (c .before .if2 .taken))
+same-length-9 : tie.Need-same-length-9 Inv-loop μ-loop
+same-length-9 c = at-loop (c .before .before .before) .loop .inv .2 .keys-last
+
+same-length-10 : tie.Need-same-length-10 Inv-loop μ-loop
+same-length-10 c = at-loop (c .before .before .before) .loop .inv .2 .starts-last
+
+same-length-11 : tie.Need-same-length-11 Inv-loop μ-loop
+same-length-11 c = at-loop (c .before .before .before) .loop .inv .2 .standings-last
+
+same-length-12 : tie.Need-same-length-12 Inv-loop μ-loop
+same-length-12 c = at-loop (c .before .before .before) .loop .inv .2 .stakes-last
 
 returns-3 : tie.Need-returns-3 Inv-loop μ-loop
-returns-3 c = let e = c .before .before in let k = e .before .before in sym (turn-ended (at-loop k .loop .inv .0) (as-tag k 90 (e .before .if1 .taken)) (e .end-at .result) (e .end-at .ensures) (c .if2 .left))
-
-refused-requires-3 : tie.Need-refused-requires-3 Inv-loop μ-loop
-refused-requires-3 c κs = search needs
-
-returns-4 : tie.Need-returns-4 Inv-loop μ-loop
-returns-4 c = let e = c .before .before in let k = e .before in c .refused3 .ensures ∙ sym (turn-other (at-loop k .loop .inv .0) (there k) (c .before .if3 .taken) (e .if1 .left))
+returns-3 c = let e = c .before .before in let k = e .before in let b = at-loop k in subst (λ v. Rolled (book k) v (b .loop .keys) (b .loop .starts) (b .loop .standings) (b .loop .stakes) (c .refused2 .result)) (sym (turn-other (b .loop .inv .0) (there k) (c .before .if2 .taken) (e .if1 .left))) (ap (λ (r : Roll). r .refusal) (c .refused2 .ensures))
 
 customer-at-requires : tie.Need-customer-at-requires Inv-loop μ-loop
 customer-at-requires c κs =
     let k = c .before .before .before .before in
-    let s = at-loop k .before .before in
-    let b = at-loop k .loop .inv in
-    (s .pre .0, (s .pre .1, ((order k, inside k), (omega (arith, keys-length (b .0), b .0 .counted, b .0 .few), b .1))))
+    let b = at-loop k in
+    let s = begin b in
+    let i = b .loop .inv in
+    (s .pre .0, (s .pre .1 .0, ((order k, inside k), (omega (arith, i .0 .room .for-keys, i .0 .held .counted, i .0 .few), i .1))))
 
 enum-known-key : tie.Need-enum-known-key Inv-loop μ-loop
 enum-known-key c = search needs
 
-slice-aggregate-put-bytes : tie.Need-slice-aggregate-put-bytes Inv-loop μ-loop
-slice-aggregate-put-bytes c = let h = codes-length (state (c .before .before) .loop .inv .0) in search needs
-
-mul-put-bytes : tie.Need-mul-put-bytes Inv-loop μ-loop
-mul-put-bytes c = let o = c .before .before in let k = field-read o in omega (arith, room o)
-
-sub-put-bytes : tie.Need-sub-put-bytes Inv-loop μ-loop
-sub-put-bytes c = let o = c .before .before in let k = field-read o in order k
-
-part-put-bytes-start : tie.Need-part-put-bytes-start Inv-loop μ-loop
-part-put-bytes-start c = let o = c .before .before in let k = field-read o in let l = order k in let m = inside k in search needs
-
-part-put-bytes-end : tie.Need-part-put-bytes-end Inv-loop μ-loop
-part-put-bytes-end c = let o = c .before .before in let k = field-read o in let l = order k in let m = inside k in search needs
-
-put-bytes-requires : tie.Need-put-bytes-requires Inv-loop μ-loop
-put-bytes-requires c κs = let o = c .before .before .before in let k = field-read o in omega (arith, room o, short o, there k .size, codes-length (at-loop k .loop .inv .0))
-
 mul-keys : tie.Need-mul-keys Inv-loop μ-loop
-mul-keys c = let o = c .before .before .before .before .before in let k = field-read o in omega (arith, room o)
+mul-keys c = omega (arith, room (c .before))
 
-array-write-keys : tie.Need-array-write-keys Inv-loop μ-loop
-array-write-keys c = let o = c .before .before .before .before .before in let k = field-read o in room o
+slice-write-keys : tie.Need-slice-write-keys Inv-loop μ-loop
+slice-write-keys c = omega (arith, room (c .before), wide (c .before) .for-keys)
 
 mark-of-requires : tie.Need-mark-of-requires Inv-loop μ-loop
 mark-of-requires c κs = search needs
 
 array-write-marks : tie.Need-array-write-marks Inv-loop μ-loop
-array-write-marks c = omega (arith, mark-below (c .before .before .before .before .before .before .key .given .0 .0), c .mark-of .ensures)
+array-write-marks c = omega (arith, mark-below (c .before .before .key .given .0 .0), c .mark-of .ensures)
 
-sub-sizes : tie.Need-sub-sizes Inv-loop μ-loop
-sub-sizes c = let o = c .before .before .before .before .before .before in let k = field-read o in order k
+cast-starts : tie.Need-cast-starts Inv-loop μ-loop
+cast-starts c = let o = c .before .before in let k = field-read o in omega (arith, begin (state o) .pre .0, order k, inside k)
 
-cast-sizes : tie.Need-cast-sizes Inv-loop μ-loop
-cast-sizes c = let o = c .before .before .before .before .before .before in let k = field-read o in omega (arith, short o)
+mul-starts : tie.Need-mul-starts Inv-loop μ-loop
+mul-starts c = let o = c .before .before in omega (arith, room o)
 
-array-write-sizes : tie.Need-array-write-sizes Inv-loop μ-loop
-array-write-sizes c = let o = c .before .before .before .before .before .before in let k = field-read o in room o
+slice-write-starts : tie.Need-slice-write-starts Inv-loop μ-loop
+slice-write-starts c = let o = c .before .before in omega (arith, room o, wide o .for-starts)
 
-mul-rows : tie.Need-mul-rows Inv-loop μ-loop
-mul-rows c = let o = c .before .before .before .before .before .before in let k = field-read o in omega (arith, room o)
+slice-write-standings : tie.Need-slice-write-standings Inv-loop μ-loop
+slice-write-standings c = let o = c .before .before in omega (arith, room o, wide o .for-standings)
 
-array-set-from-rows : tie.Need-array-set-from-rows Inv-loop μ-loop
-array-set-from-rows c = let o = c .before .before .before .before .before .before in let k = field-read o in room o
+mul-stakes : tie.Need-mul-stakes Inv-loop μ-loop
+mul-stakes c = let o = c .before .before in omega (arith, room o)
+
+slice-write-stakes : tie.Need-slice-write-stakes Inv-loop μ-loop
+slice-write-stakes c = let o = c .before .before in omega (arith, room o, wide o .for-stakes)
 
 add-count : tie.Need-add-count Inv-loop μ-loop
-add-count c = let o = c .before .before .before .before .before .before in let k = field-read o in omega (arith, room o)
+add-count c = let o = c .before .before in omega (arith, room o)
 
 loop-less : tie.Need-loop-less Inv-loop μ-loop
-loop-less c =
-    let o = c .before .before .before .before .before .before in
-    let k = there (field-read o) in
-    omega (arith, more o .later, k .begins, k .order, k .inside)
+loop-less c = let o = c .before .before in let k = there (field-read o) in omega (arith, more o .later, k .begins, k .order, k .inside)
 
 loop-again : tie.Need-loop-again Inv-loop μ-loop
 loop-again c =
-    let o = c .before .before .before .before .before .before in
-    let l = state o .loop in (
-      rw (c .before .before .put-bytes .ensures .whole) (more o .next),
-      rw (c .mark-of .ensures) (marked-more (l .keys) (l .marks) (l .count) _ (omega (arith, room o, keys-length (l .inv .0))) (l .inv .1)),
+    let o = c .before .before in
+    let l = state o .loop in
+    let z = l .inv .2 in (
+      more o .next,
+      rw (c .mark-of .ensures) (marked-more (l .keys) (l .marks) (l .count) _ (omega (arith, room o, wide o .for-keys)) (l .inv .1)),
+      record {
+        keys-last = simp length-set (z .keys-last);
+        starts-last = simp length-set (z .starts-last);
+        standings-last = simp length-set (z .standings-last);
+        stakes-last = simp length-set (z .stakes-last);
+      },
     )
 
 enum-known-r : tie.Need-enum-known-r Inv-loop μ-loop
 enum-known-r c = search needs
 
-refused-requires-4 : tie.Need-refused-requires-4 Inv-loop μ-loop
-refused-requires-4 c κs = search needs
+refused-requires-3 : tie.Need-refused-requires-3 Inv-loop μ-loop
+refused-requires-3 c κs = search needs
 
-returns-5 : tie.Need-returns-5 Inv-loop μ-loop
-returns-5 c =
+same-length-13 : tie.Need-same-length-13 Inv-loop μ-loop
+same-length-13 c = at-loop (field-of (c .before .before .before .before)) .loop .inv .2 .keys-last
+
+same-length-14 : tie.Need-same-length-14 Inv-loop μ-loop
+same-length-14 c = at-loop (field-of (c .before .before .before .before)) .loop .inv .2 .starts-last
+
+same-length-15 : tie.Need-same-length-15 Inv-loop μ-loop
+same-length-15 c = at-loop (field-of (c .before .before .before .before)) .loop .inv .2 .standings-last
+
+same-length-16 : tie.Need-same-length-16 Inv-loop μ-loop
+same-length-16 c = at-loop (field-of (c .before .before .before .before)) .loop .inv .2 .stakes-last
+
+returns-4 : tie.Need-returns-4 Inv-loop μ-loop
+returns-4 c =
     let x = c .before .before in
     let d = x .before .before in
-    c .refused4 .ensures ∙ sym (turn-no-customer (at-loop (field-of d) .loop .inv .0) (a-c d) (x .r .given .0 .0) (sym (d .customer-at .ensures) ∙ x .r .given .1))
+    let k = field-of d in
+    let b = at-loop k in
+    subst (λ v. Rolled (book k) v (b .loop .keys) (b .loop .starts) (b .loop .standings) (b .loop .stakes) (c .refused3 .result))
+    (sym (turn-no-customer (b .loop .inv .0) (a-c d) (x .r .given .0 .0) (sym (d .customer-at .ensures) ∙ x .r .given .1)))
+    (ap (λ (r : Roll). r .refusal) (c .refused3 .ensures))
 
 pub read-customers-spec : {M : Type 1} → statement M
 read-customers-spec =
@@ -229,33 +260,42 @@ read-customers-spec =
     enum-known-tag
     enum-told
     refused-requires
+    same-length
+    same-length-2
+    same-length-3
+    same-length-4
     returns
     end-at-requires
-    refused-requires-2
+    same-length-5
+    same-length-6
+    same-length-7
+    same-length-8
     returns-2
+    refused-requires-2
+    same-length-9
+    same-length-10
+    same-length-11
+    same-length-12
     returns-3
-    refused-requires-3
-    returns-4
     customer-at-requires
     enum-known-key
-    slice-aggregate-put-bytes
-    mul-put-bytes
-    sub-put-bytes
-    part-put-bytes-start
-    part-put-bytes-end
-    put-bytes-requires
     mul-keys
-    array-write-keys
+    slice-write-keys
     mark-of-requires
     array-write-marks
-    sub-sizes
-    cast-sizes
-    array-write-sizes
-    mul-rows
-    array-set-from-rows
+    cast-starts
+    mul-starts
+    slice-write-starts
+    slice-write-standings
+    mul-stakes
+    slice-write-stakes
     add-count
     loop-less
     loop-again
     enum-known-r
-    refused-requires-4
-    returns-5)
+    refused-requires-3
+    same-length-13
+    same-length-14
+    same-length-15
+    same-length-16
+    returns-4)

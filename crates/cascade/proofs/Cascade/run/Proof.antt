@@ -4,52 +4,87 @@ use Prim.Native.Nat.{ℕ, zero, suc, _+_, _*_, _-_, _≤_}
 use mathlib.Core.Path.{_≡_, refl, sym, ap, _∙_}
 use native.Mathlib.Omega.{arith}
 use borrow.Author.Needs.{needs}
+use lib.ListN.{length}
 use Rattle.cascade.specs.declared.Cascade.{Cascade}
+use Rattle.cascade.specs.Columns.{Columns, columns}
 use Rattle.cascade.specs.State.{afterTier, Steady}
-use Rattle.cascade.specs.After.{steady-wider, steady-after}
+use Rattle.cascade.specs.After.{steady-wider, steady-after, none-moved}
 use Rattle.cascade.proofs.Cascade.run.Statement.{statement}
 use Rattle.cascade.proofs.Cascade.run.Tie as tie
 
 -- the state after tiers 1 to k
-abbrev tiers : ℕ → Cascade → Cascade
-tiers zero st = st
-tiers (suc k) st = afterTier (suc k) (tiers k st)
+abbrev tiers : ℕ → Columns → Cascade → Cascade
+tiers zero c st = st
+tiers (suc k) c st = afterTier (suc k) c (tiers k c st)
 
-tiers-next : (k : ℕ) (st : Cascade) → tiers (k + 1) st ≡ afterTier (k + 1) (tiers k st)
-tiers-next k st = let e : k + 1 ≡ suc k = omega arith in rw e refl
+tiers-next : (k : ℕ) (c : Columns) (st : Cascade) → tiers (k + 1) c st ≡ afterTier (k + 1) c (tiers k c st)
+tiers-next k c st = let e : k + 1 ≡ suc k = omega arith in rw e refl
 
-steady : (k : ℕ) (st : Cascade) → Steady 0 st → Steady (k * 1024000000) (tiers k st)
-steady zero st s = steady-wider (omega arith) s
-steady (suc k) st s = steady-wider (omega arith) (steady-after (suc k) (tiers k st) (steady k st s))
+steady : (k : ℕ) (c : Columns) (st : Cascade) → Steady 0 c st → Steady (k * 1024000000) c (tiers k c st)
+steady zero c st s = steady-wider (omega arith) s
+steady (suc k) c st s = steady-wider (omega arith) (steady-after (suc k) c (tiers k c st) (steady k c st s))
 
 abbrev Inv-loop : tie.InvT-loop
-Inv-loop state₀ k₀ state k = (k ≤ 3) × (state ≡ tiers k state₀)
+Inv-loop keys standings stakes count owed weights₀ lots₀ state₀ k₀ weights lots state k =
+    (k ≤ 3) × (length weights ≡ 256) × (length lots ≡ 256) × (state ≡ tiers k (columns keys standings stakes count) state₀)
 
 abbrev μ-loop : tie.MeasureT-loop
-μ-loop state₀ k₀ state k = 3 - k
+μ-loop keys standings stakes count owed weights₀ lots₀ state₀ k₀ weights lots state k = 3 - k
+
+abbrev start : tie.At-loop Inv-loop μ-loop → tie.Start Inv-loop μ-loop
+start b = b .before .before .before .before .before
+
+abbrev cols : tie.At-loop Inv-loop μ-loop → Columns
+cols b = let a = start b .args in columns (a .keys .now) (a .standings .now) (a .stakes .now) (a .count)
+
+returns : tie.Need-returns Inv-loop μ-loop
+returns c = let s = c .before .before .before .before in none-moved _ (s .args .self) (s .pre .0 .wide) (omega (arith, s .pre .1, c .if1 .taken))
 
 loop-holds : tie.Need-loop-holds Inv-loop μ-loop
-loop-holds c = (search needs, refl)
+loop-holds c = (search needs, refl, refl, refl)
 
 add-k : tie.Need-add-k Inv-loop μ-loop
 add-k c = search needs
 
+slice-aggregate-tier : tie.Need-slice-aggregate-tier Inv-loop μ-loop
+slice-aggregate-tier c = search needs
+
+slice-aggregate-tier-2 : tie.Need-slice-aggregate-tier-2 Inv-loop μ-loop
+slice-aggregate-tier-2 c = search needs
+
 tier-requires : tie.Need-tier-requires Inv-loop μ-loop
-tier-requires c κs = let b = c .before in rw (b .loop .inv .1) (steady-wider (omega arith) (steady (b .loop .k) (b .before .args .self) (b .before .pre)))
+tier-requires c κs =
+    let b = c .before .before .before in
+    let s = start b in (
+      rw (b .loop .inv .3) (steady-wider (omega arith) (steady (b .loop .k) (cols b) (s .args .self) (s .pre .0))),
+      record { first = omega arith; last = omega arith; weighing = omega (arith, s .pre .0 .few, b .loop .inv .1); room = omega (arith, s .pre .0 .few, b .loop .inv .2) },
+    )
 
 loop-less : tie.Need-loop-less Inv-loop μ-loop
 loop-less c = search needs
 
 loop-again : tie.Need-loop-again Inv-loop μ-loop
 loop-again c =
-    let b = c .before .before in
-    let worked : c .tier .result ≡ afterTier (b .loop .k + 1) (b .loop .state) = c .tier .ensures in
-    (search needs, worked ∙ ap (afterTier (b .loop .k + 1)) (b .loop .inv .1) ∙ sym (tiers-next (b .loop .k) (b .before .args .self)))
+    let t = c .before .before in
+    let b = t .before .before .before .before in
+    let worked : t .tier .result ≡ afterTier (b .loop .k + 1) (cols b) (b .loop .state) = t .tier .ensures in
+    (search needs, search needs, search needs, worked ∙ ap (afterTier (b .loop .k + 1) (cols b)) (b .loop .inv .3) ∙ sym (tiers-next (b .loop .k) (cols b) (start b .args .self)))
 
-returns : tie.Need-returns Inv-loop μ-loop
-returns c = let b = c .before in let e : b .loop .k ≡ 3 = omega arith in b .loop .inv .1 ∙ ap (λ k. tiers k (b .before .args .self)) e
+returns-2 : tie.Need-returns-2 Inv-loop μ-loop
+returns-2 c = let b = c .before in let e : b .loop .k ≡ 3 = omega arith in b .loop .inv .3 ∙ ap (λ k. tiers k (cols b) (start b .args .self)) e
 
 pub run-spec : {M : Type 1} → statement M
 run-spec =
     tie.close
-    (tie.spec Inv-loop μ-loop loop-holds add-k tier-requires loop-less loop-again returns)
+    (tie.spec
+    Inv-loop
+    μ-loop
+    returns
+    loop-holds
+    add-k
+    slice-aggregate-tier
+    slice-aggregate-tier-2
+    tier-requires
+    loop-less
+    loop-again
+    returns-2)

@@ -1,65 +1,127 @@
 -- One tier: once x is found, the laws of Tier.antt say that the two divisions over the arrays are those over the lines.
 -- Assumes nothing.
 use native.Mathlib.Omega.{arith}
-use borrow.Author.Needs.{needs}
-use Rattle.cascade.proofs.Tier.{Found, Divided}
+use Rattle.cascade.specs.Columns.{Columns, columns}
+use Rattle.cascade.proofs.Tier.{Found}
 use Rattle.cascade.proofs.Tier as law
+use borrow.Author.Needs.{needs}
 use Rattle.cascade.proofs.Cascade.tier.Statement.{statement}
 use Rattle.cascade.proofs.Cascade.tier.Tie as tie
 
-weigh-requires : tie.Need-weigh-requires
-weigh-requires c κs = search needs
+abbrev start : tie.After-weigh-offered → tie.Start
+start w = w .before .before .before .before .before .before .before .before
 
-total-requires : tie.Need-total-requires
-total-requires c κs = law.pending-bounded _ _ (c .before .before .weigh .ensures) (c .before .before .before .before .pre)
+abbrev cols : tie.Start → Columns
+cols s = let a = s .args in columns (a .keys .now) (a .standings .now) (a .stakes .now) (a .count)
 
-total-requires-2 : tie.Need-total-requires-2
-total-requires-2 c κs = law.offered-bounded _ _ (c .before .before .before .before .before .weigh .ensures) (c .before .before .before .before .before .before .before .pre)
+-- what is weighed first, and then
+abbrev waited : tie.After-lesser → tie.After-weigh-pending
+waited l = l .before .before .before
+
+abbrev offers : tie.After-lesser → tie.After-weigh-offered
+offers l = waited l .before .before .before .before .before
+
+abbrev began : tie.After-lesser → tie.Start
+began l = start (offers l)
+
+weigh-offered-requires : tie.Need-weigh-offered-requires
+weigh-offered-requires c κs = let s = c .before .before .before .before .before .before .before in (law.staked (s .pre .0), s .pre .1 .weighing)
+
+slice-aggregate-weigh-pending : tie.Need-slice-aggregate-weigh-pending
+slice-aggregate-weigh-pending c = search needs
+
+weigh-pending-requires : tie.Need-weigh-pending-requires
+weigh-pending-requires c κs =
+    let w = c .before .before .before .before in
+    let s = start w in
+    (law.staked (s .pre .0), (law.weighed-room (w .weigh-offered .ensures), (s .pre .0 .wide, s .pre .0 .each)))
 
 lesser-requires : tie.Need-lesser-requires
 lesser-requires c κs = search needs
 
-found : (c : tie.After-lesser) →
-    let w = c .before .before .before .before .before .before .before in
-    let a = w .before .before .args in
-    Found (a .k) (a .t1) (w .weigh .result .offered) (w .weigh .result .pending) (c .lesser .result)
-found c = let w = c .before .before .before .before .before .before .before in record { steady = w .before .before .pre; weighed = w .weigh .ensures; smaller = omega arith }
+found : (l : tie.After-lesser) → let s = began l in Found (s .args .k) (cols s) (s .args .self) (l .lesser .result) (offers l .weigh-offered .result) (waited l .weigh-pending .result)
+found l =
+    let s = began l in
+    record {
+      steady = s .pre .0;
+      first = s .pre .1 .first;
+      last = s .pre .1 .last;
+      offers = offers l .weigh-offered .ensures .sum;
+      waits = waited l .weigh-pending .ensures .sum;
+      smaller = l .lesser .ensures;
+    }
+
+same-length : tie.Need-same-length
+same-length c = search needs
 
 returns : tie.Need-returns
-returns c = law.idle (found (c .before)) (c .if1 .taken)
+returns c = law.rests (found (c .before)) (c .if1 .taken)
 
-divide-requires : tie.Need-divide-requires
-divide-requires c κs = law.offered-asked (found (c .before .before .before .before .before))
+slice-aggregate-deal : tie.Need-slice-aggregate-deal
+slice-aggregate-deal c = search needs
 
-divide-requires-2 : tie.Need-divide-requires-2
-divide-requires-2 c κs = law.pending-asked (found (c .before .before .before .before .before .before .before .before .before .before))
+deal-requires : tie.Need-deal-requires
+deal-requires c κs =
+    let l = c .before .before .before .before in
+    let w = waited l .weigh-pending .ensures in
+    let s = began l in
+    (law.pending-lent (found l) w (law.weighed-room w) (s .pre .1 .room), law.pending-open (found l) w)
 
-divided : (c : tie.After-divide2) →
-    let l = c .before .before .before .before .before .before .before .before .before .before .before in
-    let a = l .before .before .before .before .before .before .before .before .before .args in
-    Divided (a .k) (a .t1) (l .lesser .result) (c .before .before .before .before .before .divide .result .lots) (c .divide2 .result .lots)
-divided c = law.divided (found (c .before .before .before .before .before .before .before .before .before .before .before)) (c .before .before .before .before .before .divide .ensures) (c .divide2 .ensures)
+weigh-offered-requires-2 : tie.Need-weigh-offered-requires-2
+weigh-offered-requires-2 c κs =
+    let l = c .before .before .before .before .before .before .before .before .before in
+    (law.staked (began l .pre .0), law.weighed-room (waited l .weigh-pending .ensures))
 
-move-lots-requires : tie.Need-move-lots-requires
-move-lots-requires c κs = law.moves (divided (c .before .before .before .before))
+slice-aggregate-deal-2 : tie.Need-slice-aggregate-deal-2
+slice-aggregate-deal-2 c = search needs
 
-add-self : tie.Need-add-self
-add-self c = omega (arith, law.total-fits (divided (c .before .before .before .before .before)))
+deal-requires-2 : tie.Need-deal-requires-2
+deal-requires-2 c κs =
+    let v = c .before .before .before .before .before in
+    let d = v .before .before .before .before .before in
+    let l = d .before .before .before .before .before in
+    let w = waited l .weigh-pending .ensures in
+    let e = d .deal .ensures in
+    let z = v .weigh-offered2 .ensures in
+    (law.offered-lent (found l) w e z (law.weighed-room z) (omega (arith, began l .pre .1 .room)), law.offered-open (found l) w e z)
+
+add-t27 : tie.Need-add-t27
+add-t27 c =
+    let v = c .before .before .before .before .before .before .before .before .before .before in
+    let d = v .before .before .before .before .before in
+    let l = d .before .before .before .before .before in
+    omega (arith, law.total-fits (found l) (waited l .weigh-pending .ensures) (d .deal .ensures) (v .weigh-offered2 .ensures))
+
+same-length-2 : tie.Need-same-length-2
+same-length-2 c = search needs
+
+same-length-3 : tie.Need-same-length-3
+same-length-3 c = search needs
 
 returns-2 : tie.Need-returns-2
-returns-2 c = law.worked (divided (c .before .before .before .before .before)) (c .move-lots .ensures)
+returns-2 c =
+    let y = c .before .before .before .before in
+    let v = y .before .before .before .before .before .before in
+    let d = v .before .before .before .before .before in
+    let l = d .before .before .before .before .before in
+    law.worked (found l) (waited l .weigh-pending .ensures) (d .deal .ensures) (v .weigh-offered2 .ensures) (y .deal2 .ensures)
 
 pub tier-spec : {M : Type 1} → statement M
 tier-spec =
     tie.close
     (tie.spec
-    weigh-requires
-    total-requires
-    total-requires-2
+    weigh-offered-requires
+    slice-aggregate-weigh-pending
+    weigh-pending-requires
     lesser-requires
+    same-length
     returns
-    divide-requires
-    divide-requires-2
-    move-lots-requires
-    add-self
+    slice-aggregate-deal
+    deal-requires
+    weigh-offered-requires-2
+    slice-aggregate-deal-2
+    deal-requires-2
+    add-t27
+    same-length-2
+    same-length-3
     returns-2)
