@@ -24,7 +24,7 @@ use Rattle.report.specs.Sheet.{reportBytes, listingBytes, Placed}
 use Rattle.allotment.specs.declared.Closed.{Closed}
 use Rattle.allotment.specs.declared.Worked.{Worked}
 use Rattle.allotment.specs.declared.Answer.{Answer}
-use Rattle.allotment.specs.Worked.{atFirst, closedOf, sheetOf, Shows, Came}
+use Rattle.allotment.specs.Worked.{listingRoom, atFirst, closedOf, sheetOf, Shows, Came}
 use Rattle.allotment.specs.Answered.{Answered}
 use Rattle.allotment.proofs.Start.{start-steady}
 use Rattle.allotment.proofs.Shown.{report-is, listing-is, placed}
@@ -99,7 +99,7 @@ module _ (s starts standings : List ℕ) (w : Worked) (e : Came s (judge s) star
   pub record Goes : Type 0 where
     pub placed : Placed s starts (w .offset) (w .count)
     pub stood : w .count ≤ length standings
-    pub short : length (listingBytes (sheetOf s starts standings w)) ≤ 8192
+    pub short : length (listingBytes (sheetOf s starts standings w)) ≤ listingRoom
     pub answers : (room : ℕ) → answer s room ≡ fitted room (reportBytes (sheetOf s starts standings w))
     pub lists : listing s ≡ listingBytes (sheetOf s starts standings w)
 

@@ -27,7 +27,7 @@ use Rattle.roll.specs.Roll.{Held, Room}
 use Rattle.writing.specs.Shown.{shown}
 use Rattle.entries.specs.Entries.{reportHead, reported-shown, report-head}
 use Rattle.printing.specs.Printed.{listedHead, printed-shown, listed-head}
-use Rattle.report.specs.Sheet.{codeAt, Sheet, sheet, lineAt, reportBytes, listingBytes, Placed}
+use Rattle.report.specs.Sheet.{codeAt, Sheet, sheet, lineAt, sheetBytes, reportBytes, listingBytes, Placed}
 use Rattle.allotment.specs.Worked.{atFirst}
 use Rattle.allotment.proofs.Start.{nobody, at, in-order, lines-are, few, start-steady, code-in, code-short}
 
@@ -120,11 +120,11 @@ module _ {book : List ℕ} (terms : Terms) {cs : List Customer} {keys starts sta
   residue-is = ap (λ (o : Outcome). o .residue) same
 
   pub report-is : reportBytes page ≡ report (outcome terms cs)
-  unfolding reportBytes
+  unfolding sheetBytes
   report-is = sym (report-head (outcome terms cs) ∙ ap₂ _++_ (ap₂ reportHead total-is residue-is) (joined-shown reported reported-shown))
 
   pub listing-is : listingBytes page ≡ listed (outcome terms cs)
-  unfolding listingBytes
+  unfolding sheetBytes
   listing-is = sym (listed-head (outcome terms cs) ∙ ap₂ _++_ (ap₂ listedHead total-is residue-is) (joined-shown printed printed-shown))
 
   pub placed : Room keys starts standings stakes → Placed book starts (done .offset) count

@@ -1,5 +1,5 @@
--- A listing of 256 customers has at most 6,689 bytes: each line has a code of at most 12, an offset of at most 10 digits and 4 bytes
--- more, and the two lines before them at most 33. So 8,192 are always enough.
+-- Every listing fits 8,192 bytes: there are at most 256 lines, each of a code of at most 12, an offset of at most 10 digits and 4 bytes
+-- more; and the two lines before them have at most 33.
 -- Assumes nothing.
 use Prim.Native.Nat.{ℕ, zero, suc, _+_, _-_, _*_, _^_, _≤_, _<_}
 use mathlib.Core.Path.{_≡_, refl, sym, ap, _∙_}
@@ -22,8 +22,8 @@ use Rattle.cascade.specs.After.{steady-all, pending-le}
 use Rattle.roll.specs.Roll.{Held, Room}
 use Rattle.writing.specs.Shown.{joined-append}
 use Rattle.printing.specs.Printed.{printed-length, listedHead, listed-head-length}
-use Rattle.report.specs.Sheet.{codeAt, lineAt, listingBytes}
-use Rattle.allotment.specs.Worked.{atFirst}
+use Rattle.report.specs.Sheet.{codeAt, lineAt, sheetBytes, listingBytes}
+use Rattle.allotment.specs.Worked.{listingRoom, atFirst}
 use Rattle.allotment.proofs.Start.{start-steady}
 use Rattle.allotment.proofs.Shown.{page, placed}
 
@@ -54,8 +54,8 @@ module _ {book : List ℕ} (terms : Terms) {cs : List Customer} {keys starts sta
       let n : length (codeAt book starts i) ≤ 12 = simp length-take (omega (arith, p .short)) in
       omega (arith, printed-length (lineAt (page terms k h) i))
 
-  pub listing-room : length (listingBytes (page terms k h)) ≤ 8192
-  unfolding listingBytes
+  pub listing-room : length (listingBytes (page terms k h)) ≤ listingRoom
+  unfolding sheetBytes
   listing-room =
       let g = page terms k h in
       let t : length (digits (g .total)) ≤ 10 = digits-length-10 _ (omega (arith, steady .total)) in

@@ -5,6 +5,7 @@ use mathlib.Core.Path.{_≡_}
 use mathlib.Core.List.{List}
 use lib.ListN.{length, replicate}
 use Rattle.rules.specs.declared.Terms.{Terms}
+use Rattle.rules.specs.Limits.{mostCustomers}
 use Rattle.rules.specs.Division.{sumOf}
 use Rattle.rules.specs.Book.{Customer, Verdict, Refused, Accepted}
 use Rattle.rules.specs.Cascade.{pendingOf, outcome}
@@ -17,9 +18,13 @@ use Rattle.report.specs.Sheet.{Sheet, sheet, reportBytes, listingBytes, Placed}
 use Rattle.allotment.specs.declared.Closed.{Closed}
 use Rattle.allotment.specs.declared.Worked.{Worked}
 
+-- a buffer that every listing fits
+abbrev pub listingRoom : ℕ
+listingRoom = 8_192
+
 -- the cascade's state before tier 1
 abbrev pub atFirst : Cascade
-atFirst = record { offset = replicate 256 0; total = 0 }
+atFirst = record { offset = replicate mostCustomers 0; total = 0 }
 
 -- what it leaves after tier 3
 abbrev pub closedOf : Columns → Closed
@@ -39,7 +44,7 @@ pub record Shows (book : List ℕ) (terms : Terms) (cs : List Customer) (starts 
   pub stood : r .count ≤ length standings
   pub reports : reportBytes (sheetOf book starts standings r) ≡ report (outcome terms cs)
   pub lists : listingBytes (sheetOf book starts standings r) ≡ listed (outcome terms cs)
-  pub short : length (listingBytes (sheetOf book starts standings r)) ≤ 8192
+  pub short : length (listingBytes (sheetOf book starts standings r)) ≤ listingRoom
 
 abbrev pub Came : List ℕ → Verdict → List ℕ → List ℕ → Worked → Type 0
 Came book (Refused n place) starts standings r = r .refusal ≡ refusal n place

@@ -1,6 +1,8 @@
 // The call: a book and a lent buffer in; a number, a place and a length out.
 use cascade::Cascade;
 use fields::Refusal;
+use rules::MOST_CUSTOMERS;
+use rules::refusal;
 ghost use mathlib.Core.Path.{_≡_};
 ghost use Prim.Native.Nat.{_-_, _≤_};
 ghost use lib.ListN.{length};
@@ -12,11 +14,14 @@ ghost use Rattle.cascade.specs.State.{Steady};
 ghost use Rattle.roll.specs.Roll.{Room};
 ghost use Rattle.report.specs.Sheet.{sheet, reportBytes, Placed};
 ghost use Rattle.allotment.specs.Answered.{Answered, Listed};
-ghost use Rattle.allotment.specs.Worked.{atFirst, closedOf, Came};
+ghost use Rattle.allotment.specs.Worked.{listingRoom, atFirst, closedOf, Came};
+
+// A buffer that every listing fits: 256 lines of at most 26 bytes, and at most 33 before them.
+pub const LISTING_ROOM: usize = 8_192;
 
 // What the cascade leaves: each customer's offset, the total and the residue.
 pub struct Closed {
-    pub offset: [u32; 256],
+    pub offset: [u32; MOST_CUSTOMERS],
     pub total: u64,
     pub residue: u64,
 }
@@ -25,7 +30,7 @@ pub struct Closed {
 pub struct Worked {
     pub refusal: Refusal,
     pub count: usize,
-    pub offset: [u32; 256],
+    pub offset: [u32; MOST_CUSTOMERS],
     pub total: u64,
     pub residue: u64,
 }
@@ -44,7 +49,7 @@ fn close(keys: &[u64], standings: &[u8], stakes: &[u32], count: usize) -> Closed
 {
     let owed = cascade::owed(standings, stakes, count);
     let start = Cascade {
-        offset: [0u32; 256],
+        offset: [0u32; MOST_CUSTOMERS],
         total: 0,
     };
     let end = start.run(keys, standings, stakes, count, owed);
@@ -75,7 +80,7 @@ fn work_out(
         return Worked {
             refusal: refusal,
             count: 0,
-            offset: [0u32; 256],
+            offset: [0u32; MOST_CUSTOMERS],
             total: 0,
             residue: 0,
         };
@@ -117,12 +122,12 @@ fn report_lines(
     let needed = report::report_length(book, starts, offset, count, total, residue);
     if report.len() < needed {
         return Answer {
-            number: 11,
+            number: refusal::NO_ROOM,
             place: needed as u64,
             length: 0,
         };
     }
-    let length = report::put_report(
+    let length = report::put_sheet(
         report,
         book,
         starts,
@@ -131,9 +136,10 @@ fn report_lines(
         count,
         total,
         residue,
+        false,
     );
     Answer {
-        number: 0,
+        number: refusal::ACCEPTED,
         place: 0,
         length: length as u64,
     }
@@ -144,13 +150,13 @@ fn report_lines(
 pub fn allot(book: &[u8], report: &mut [u8]) -> Answer
     ensures { λ r. ⌜ Answered (answer (now (book .entry)) (length (now (report .entry)))) r (now (report .entry)) (now (report .exit)) ⌝ }
 {
-    let mut keys = [0u64; 256];
-    let mut starts = [0u16; 256];
-    let mut standings = [0u8; 256];
-    let mut stakes = [0u32; 256];
+    let mut keys = [0u64; MOST_CUSTOMERS];
+    let mut starts = [0u16; MOST_CUSTOMERS];
+    let mut standings = [0u8; MOST_CUSTOMERS];
+    let mut stakes = [0u32; MOST_CUSTOMERS];
     let worked = work_out(book, &mut keys, &mut starts, &mut standings, &mut stakes);
     let refused = worked.refusal;
-    if refused.number != 0 {
+    if refused.number != refusal::ACCEPTED {
         return Answer {
             number: refused.number,
             place: refused.place as u64,
@@ -180,20 +186,20 @@ pub extern "C" fn frundavel_allot(book: &[u8], report: &mut [u8]) -> Answer
 
 // The listing of a book, at the front of a buffer that is always large enough; its length is returned.
 pub fn list(book: &[u8], out: &mut [u8]) -> usize
-    requires { ⌜ 8192 ≤ length (now out) ⌝ }
+    requires { ⌜ listingRoom ≤ length (now out) ⌝ }
     ensures { λ r. ⌜ Listed (listing (now (book .entry))) (now (out .entry)) (now (out .exit)) r ⌝ }
 {
-    let mut keys = [0u64; 256];
-    let mut starts = [0u16; 256];
-    let mut standings = [0u8; 256];
-    let mut stakes = [0u32; 256];
+    let mut keys = [0u64; MOST_CUSTOMERS];
+    let mut starts = [0u16; MOST_CUSTOMERS];
+    let mut standings = [0u8; MOST_CUSTOMERS];
+    let mut stakes = [0u32; MOST_CUSTOMERS];
     let worked = work_out(book, &mut keys, &mut starts, &mut standings, &mut stakes);
     let stopped = worked.refusal;
-    if stopped.number != 0 {
+    if stopped.number != refusal::ACCEPTED {
         return printing::put_refusal(out, stopped.number, stopped.place as u64);
     }
     let offset = worked.offset;
-    report::put_listing(
+    report::put_sheet(
         out,
         book,
         &starts,
@@ -202,5 +208,6 @@ pub fn list(book: &[u8], out: &mut [u8]) -> usize
         worked.count,
         worked.total,
         worked.residue,
+        true,
     )
 }

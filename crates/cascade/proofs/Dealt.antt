@@ -2,42 +2,35 @@
 -- Assumes nothing.
 use Prim.Native.Nat.{ℕ, _+_, _≤_, _<_}
 use mathlib.Core.Path.{_≡_, ap, _∙_}
-use mathlib.Core.List.{List, _++_, map}
+use mathlib.Core.List.{List, _++_}
 use native.Mathlib.Omega.{arith}
-use lib.ListN.{length, drop, length-append}
-use lib.Seq.{drop-at}
+use lib.ListN.{length, drop}
 use Rattle.laws.specs.Sums.{upTo}
-use Rattle.laws.specs.Indices.{map-below, length-map-upTo}
+use Rattle.laws.specs.Indices.{map-below}
 use Rattle.laws.specs.Division.{share-at-most}
-use Rattle.laws.specs.Filled.{filled, front-at}
-use Rattle.division.specs.Shares.{at, codeAt, shareAt, sharesOver, Asked, Lent}
+use Rattle.laws.specs.Filled.{filled, front-at, length-filled}
+use Rattle.division.specs.Shares.{at, codeAt, shareAt, divided, Lent}
 use Rattle.cascade.specs.State.{addedAt, dealtAt, Open, Addable}
 
--- a table over a table
-pub filled-twice : (f g : ℕ → ℕ) (n : ℕ) (l : List ℕ) → filled f n (filled g n l) ≡ filled f n l
-filled-twice f g n l = ap (λ m. map f (upTo n) ++ m) (drop-at (map g (upTo n)) (drop n l) n (length-map-upTo g n))
-
-pub share-le : (keys weights : List ℕ) (count x : ℕ) → Asked weights count x → (i : ℕ) → shareAt keys weights count x i ≤ at weights i
-unfolding shareAt
-share-le keys weights count x a i = share-at-most (codeAt keys) (at weights) x (upTo count) (a .lots) i
-
-module _ {weights keys lots offset after : List ℕ} {count x sum : ℕ} (l : Lent weights keys lots count x sum) (o : Open weights offset count)
-    (d : after ≡ sharesOver keys weights count x lots) where
+module _ {weights keys offset after : List ℕ} {count x sum : ℕ} (l : Lent weights keys count x sum) (o : Open weights offset count) (d : after ≡ divided keys count x weights) where
   lots-at : (i : ℕ) → i < count → at after i ≡ shareAt keys weights count x i
-  unfolding sharesOver
+  unfolding divided
   lots-at i h = rw d (front-at (shareAt keys weights count x) count _ i 0 h)
 
-  room : count ≤ length after
-  unfolding sharesOver
-  room = let p = map (shareAt keys weights count x) (upTo count) in
-      omega (arith, ap length d ∙ length-append p (drop (length p) lots), length-map-upTo (shareAt keys weights count x) count)
+  share-le : (i : ℕ) → shareAt keys weights count x i ≤ at weights i
+  unfolding shareAt
+  share-le i = share-at-most (codeAt keys) (at weights) x (upTo count) (omega (arith, l .most, l .total)) i
+
+  pub as-long : length after ≡ length weights
+  unfolding divided
+  as-long = ap length d ∙ length-filled (shareAt keys weights count x) count weights (l .bounded .within)
 
   pub addable : Addable offset after count
   addable =
       record {
         offsets = o .offsets;
-        given = room;
-        fits = λ i h. omega (arith, lots-at i h, share-le keys weights count x (l .asked) i, o .fits i h);
+        given = omega (arith, as-long, l .bounded .within);
+        fits = λ i h. omega (arith, lots-at i h, share-le i, o .fits i h);
       }
 
   pub dealt : {end : List ℕ} → end ≡ filled (addedAt offset after) count offset → end ≡ filled (dealtAt keys weights count x offset) count offset

@@ -23,7 +23,7 @@ use Rattle.laws.specs.Filled.{filled, front-at, filled-same}
 use Rattle.division.specs.Shares.{at}
 use Rattle.cascade.specs.Columns.{standingOf, offeredAs, pendingAs, Columns, lineAt, linesOf}
 use Rattle.cascade.specs.declared.Cascade.{Cascade}
-use Rattle.cascade.specs.State.{offsetOf, afterTier, afterAll, Within, Steady, stakeAt}
+use Rattle.cascade.specs.State.{offsetOf, afterTier, afterAll, Within, Steady, weightIn, stakeAt}
 
 -- the code's tests of a byte are the definition's of a standing
 pub offered-byte : (b k n : ℕ) → 0 < k → k ≤ 3 → cond (eqb b k) n 0 ≡ cond (eqb (tierOf (standingOf b)) k) (offeredAs (standingOf b) n) 0
@@ -39,6 +39,10 @@ pending-byte (suc zero) n o = omega arith
 pending-byte (suc (suc zero)) n o = omega arith
 pending-byte (suc (suc (suc zero))) n o = omega arith
 pending-byte (suc (suc (suc (suc b)))) n o = rw (ne-eqb (suc (suc (suc (suc b)))) 0 (λ e. omega arith)) (sym (zero-sub o))
+
+-- what is at stake in a tier is the whole stake
+pub weight-offered : (k standing stake offset : ℕ) → 0 < k → weightIn k standing stake offset ≡ cond (eqb standing k) stake 0
+weight-offered k standing stake offset h = rw (ne-eqb k 0 (λ e. omega arith), sub-zero stake)
 
 cond-none : (b : Bool) {n : ℕ} → n ≡ 0 → cond b n 0 ≡ 0
 cond-none true e = e
@@ -85,16 +89,16 @@ steady-wider l s =
 
 -- 256 customers have at most 4,000,000 lots each pending
 module _ (c : Columns) (st : Cascade) {most : ℕ} (s : Steady most c st) where
-  pending-small : (i : ℕ) → i < c .count → lineAt c (st .offset) i .pending ≤ 4000000
+  pending-small : (i : ℕ) → i < c .count → lineAt c (st .offset) i .pending ≤ 4_000_000
   pending-small i h = omega (arith, pending-most (standingOf (at (c .standings) i)) (at (c .stakes) i), s .each i h .small)
 
-  pub pending-le : sumOf pendingOf (linesOf c (st .offset)) ≤ 1024000000
+  pub pending-le : sumOf pendingOf (linesOf c (st .offset)) ≤ 1_024_000_000
   unfolding linesOf
   pending-le =
       omega (
         arith,
         sum-map pendingOf (lineAt c (st .offset)) (upTo (c .count)),
-        sum-bound (λ i. lineAt c (st .offset) i .pending) 4000000 (c .count) pending-small,
+        sum-bound (λ i. lineAt c (st .offset) i .pending) 4_000_000 (c .count) pending-small,
         s .few,
       )
 
@@ -187,16 +191,16 @@ module _ (k : ℕ) (c : Columns) (st : Cascade) where
 
   module _ {most : ℕ} (s : Steady most c st) where
     -- a tier's quantity is at most what is pending
-    pub quantity-le : quantity k ls ≤ 1024000000
+    pub quantity-le : quantity k ls ≤ 1_024_000_000
     unfolding quantity
     quantity-le = omega (arith, pending-le c st s)
 
-    pub more-le : (i : ℕ) → i < c .count → givesOf i + closesOf i ≤ 8000000
+    pub more-le : (i : ℕ) → i < c .count → givesOf i + closesOf i ≤ 8_000_000
     more-le i h =
         let b = standingOf (at (c .standings) i) in
         omega (arith, gives-le i, closes-le i, pending-small c st s i h, offered-most (eqb (tierOf b) k) b (at (c .stakes) i), s .each i h .small)
 
-    pub steady-after : Steady (most + 1024000000) c (afterTier k c st)
+    pub steady-after : Steady (most + 1_024_000_000) c (afterTier k c st)
     steady-after =
         record {
           few = s .few;
@@ -216,7 +220,7 @@ module _ (c : Columns) (st : Cascade) where
   abbrev third : Cascade
   third = afterTier 2 c second
 
-  pub steady-all : Steady 0 c st → Steady 3072000000 c (afterAll c st)
+  pub steady-all : Steady 0 c st → Steady 3_072_000_000 c (afterAll c st)
   steady-all s = steady-after 3 c third (steady-after 2 c second (steady-after 1 c st s))
 
   -- where nothing is pending, nothing moves

@@ -6,6 +6,7 @@ use mathlib.Core.Bool.{cond}
 use mathlib.Core.List.{List, _++_, map}
 use lib.Dec.{eqb}
 use lib.ListN.{length, drop}
+use Rattle.rules.specs.Limits.{mostCustomers}
 use Rattle.rules.specs.Division.{sumOf}
 use Rattle.rules.specs.Cascade.{Line, quantity, tier}
 use Rattle.laws.specs.Sums.{upTo}
@@ -32,11 +33,11 @@ afterAll c st = afterTier 3 c (afterTier 2 c (afterTier 1 c st))
 -- a pending customer has offset no more than its stake
 pub record Within (standing stake offset : ℕ) : Type 0 where
   pub within : standing ≡ 0 → offset ≤ stake
-  pub small : stake ≤ 4000000
+  pub small : stake ≤ 4_000_000
 
 -- nobody holds more than 4,000,000 lots, and at most `most` lots were offset so far
 pub record Steady (most : ℕ) (c : Columns) (st : Cascade) : Type 0 where
-  pub few : c .count ≤ 256
+  pub few : c .count ≤ mostCustomers
   pub keyed : c .count ≤ length (c .keys)
   pub stood : c .count ≤ length (c .standings)
   pub staked : c .count ≤ length (c .stakes)
@@ -45,28 +46,31 @@ pub record Steady (most : ℕ) (c : Columns) (st : Cascade) : Type 0 where
   pub offset : (i : ℕ) → i < c .count → at (st .offset) i ≤ most
   pub total : st .total ≤ most
 
--- the tier is one of the three, and there is room to work in
-pub record Scratch (k count : ℕ) (weights lots : List ℕ) : Type 0 where
-  pub first : 0 < k
-  pub last : k ≤ 3
-  pub weighing : count ≤ length weights
-  pub room : count ≤ length lots
+-- What a customer with a stake has at stake in tier k, and for 0 what it still has pending; nothing where its standing is another
+abbrev pub weightIn : ℕ → ℕ → ℕ → ℕ → ℕ
+weightIn k standing stake offset = cond (eqb standing k) (stake - cond (eqb k 0) offset 0) 0
 
--- the stake of customer i where its standing is k, what it still has pending, and its offset with some lots more
+abbrev pub weightAt : ℕ → List ℕ → List ℕ → List ℕ → ℕ → ℕ
+weightAt k standings stakes offset i = weightIn k (at standings i) (at stakes i) (at offset i)
+
+-- the stake of customer i where its standing is k
 abbrev pub stakeAt : ℕ → List ℕ → List ℕ → ℕ → ℕ
 stakeAt k standings stakes i = cond (eqb (at standings i) k) (at stakes i) 0
 
-abbrev pub pendingAt : List ℕ → List ℕ → List ℕ → ℕ → ℕ
-pendingAt standings stakes offset i = cond (eqb (at standings i) 0) (at stakes i - at offset i) 0
-
+-- its offset with some lots more
 abbrev pub addedAt : List ℕ → List ℕ → ℕ → ℕ
 addedAt offset lots i = at offset i + at lots i
 
-pub record Staked (standings stakes : List ℕ) (count : ℕ) : Type 0 where
-  pub few : count ≤ 256
+pub record Stood (standings stakes : List ℕ) (count : ℕ) : Type 0 where
+  pub few : count ≤ mostCustomers
   pub stood : count ≤ length standings
   pub staked : count ≤ length stakes
-  pub small : (i : ℕ) → i < count → at stakes i ≤ 4000000
+  pub small : (i : ℕ) → i < count → at stakes i ≤ 4_000_000
+
+pub record Staked (standings stakes offset : List ℕ) (count : ℕ) : Type 0 where
+  pub stood : Stood standings stakes count
+  pub wide : count ≤ length offset
+  pub each : (i : ℕ) → i < count → Within (at standings i) (at stakes i) (at offset i)
 
 -- the weights that a loop leaves in an array, and their sum
 pub record Weighed (weight : ℕ → ℕ) (count : ℕ) (entry exit : List ℕ) (r : ℕ) : Type 0 where
@@ -76,7 +80,7 @@ pub record Weighed (weight : ℕ → ℕ) (count : ℕ) (entry exit : List ℕ) 
 pub record Addable (offset lots : List ℕ) (count : ℕ) : Type 0 where
   pub offsets : count ≤ length offset
   pub given : count ≤ length lots
-  pub fits : (i : ℕ) → i < count → at offset i + at lots i ≤ 4200000000
+  pub fits : (i : ℕ) → i < count → at offset i + at lots i ≤ 4_200_000_000
 
 -- an offset with the customer's share more; a share is at most its weight
 abbrev pub dealtAt : List ℕ → List ℕ → ℕ → ℕ → List ℕ → ℕ → ℕ
@@ -84,4 +88,4 @@ dealtAt keys weights count x offset i = at offset i + shareAt keys weights count
 
 pub record Open (weights offset : List ℕ) (count : ℕ) : Type 0 where
   pub offsets : count ≤ length offset
-  pub fits : (i : ℕ) → i < count → at offset i + at weights i ≤ 4200000000
+  pub fits : (i : ℕ) → i < count → at offset i + at weights i ≤ 4_200_000_000

@@ -1,8 +1,7 @@
 -- Laws that several of the crate's proofs cite.
-mod Arrays
 mod Bounds
 mod Order
-mod Tied
 mod Counts
+mod Between
 mod Search
 mod Division

@@ -2,7 +2,7 @@
 -- a member that is not after the last is not after it either; and whoever is not after the last goes before all that are.
 -- Assumes nothing.
 use Prim.Native.Nat.{ℕ, _+_, _*_, _≤_, _<_, zero-le}
-use mathlib.Core.Path.{_≡_, refl, sym, _∙_}
+use mathlib.Core.Path.{_≡_, refl, sym, ap, _∙_}
 use mathlib.Core.Logic.{⊎-elim}
 use mathlib.Core.Bool.{Bool, true, false, _&&_, _||_}
 use native.Mathlib.Nat.{le-refl, le-trans, lt-of-le-of-lt, eq-or-lt-of-le, mul-le-mul-right}
@@ -12,7 +12,7 @@ use lib.Dec.{leb, ltb, eqb}
 use borrow.Author.Tests.{lt-ltb, le-ltb, ltb-true, ltb-false, leb-true, leb-false, eqb-true, eqb-false}
 use Rattle.rules.specs.Division.{oneIf}
 use Rattle.laws.specs.Indices.{sum-below-le, sum-below-lt}
-use Rattle.division.specs.Last.{before, beforeOf, Edge}
+use Rattle.division.specs.Parts.{before, beforeOf, Edge}
 
 -- two tests that agree
 pub same : (p q : Bool) → (p ≡ true → q ≡ true) → (q ≡ true → p ≡ true) → p ≡ q
@@ -25,12 +25,19 @@ implied true q f = rw (f refl) (le-refl 1)
 implied false q f = zero-le
 
 -- the machine's byte of a test
-pub counted : (a b : ℕ) → boolByte (leb a b) ≡ oneIf (ltb a (b + 1))
-counted a b = go (leb a b) refl
+pub byte : (b : Bool) → boolByte b ≡ oneIf b
+byte true = refl
+byte false = refl
+
+pub up-to : (a b : ℕ) → leb a b ≡ ltb a (b + 1)
+up-to a b = go (leb a b) refl
   where
-    go : (t : Bool) → leb a b ≡ t → boolByte t ≡ oneIf (ltb a (b + 1))
-    go true e = rw (lt-ltb a (b + 1) (omega (arith, leb-true)))
-    go false e = rw (le-ltb a (b + 1) (omega (arith, leb-false)))
+    go : (t : Bool) → leb a b ≡ t → t ≡ ltb a (b + 1)
+    go true e = sym (lt-ltb a (b + 1) (omega (arith, leb-true)))
+    go false e = sym (le-ltb a (b + 1) (omega (arith, leb-false)))
+
+pub counted : (a b : ℕ) → boolByte (leb a b) ≡ oneIf (ltb a (b + 1))
+counted a b = byte (leb a b) ∙ ap oneIf (up-to a b)
 
 -- a larger digit outweighs what stands behind it
 digit : {r r′ k K : ℕ} (k′ : ℕ) → r′ < r → k < K → r′ * K + k < r * K + k′

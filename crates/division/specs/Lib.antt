@@ -1,3 +1,3 @@
 -- What the crate's contracts cite.
 pub mod Shares
-pub mod Last
+pub mod Parts

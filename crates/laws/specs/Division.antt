@@ -1,18 +1,18 @@
 -- Laws of the division. X x W is the whole parts times W and the remainders, so the lots left over are no more than the members
 -- with a remainder, and those go before everybody without one: hence no share is above its weight.
 -- Assumes nothing.
-use Prim.Native.Nat.{ℕ, zero, suc, _+_, _-_, _*_, _≤_, _<_, zero-le}
+use Prim.Native.Nat.{ℕ, zero, suc, _+_, _-_, _*_, _/_, _≤_, _<_, zero-le}
 use mathlib.Core.Path.{_≡_, refl, ap, _∙_}
 use mathlib.Core.Bool.{Bool, true, false, cond, _&&_, _||_}
 use mathlib.Core.List.{List, [], _∷_, map, List·Memᴰ}
-use native.Mathlib.Nat.{le-refl, mod-lt, div-add-mod', mul-le-mul-right, le-of-mul-le-mul-right, lt-of-mul-lt-mul-right}
+use native.Mathlib.Nat.{le-refl, mod-lt, zero-div, div-add-mod', add-mul-div-right, mul-le-mul-right, le-of-mul-le-mul-right, lt-of-mul-lt-mul-right}
 use native.Mathlib.Omega.{arith}
-use borrow.Author.Tests.{lt-ltb, ltb-true, eq-eqb}
+use borrow.Author.Tests.{lt-ltb, le-ltb, ltb-true, eq-eqb, ne-eqb}
 use lib.Dec.{ltb, eqb}
 use lib.ListN.{length}
 use Rattle.rules.specs.Codes.{smaller}
 use Rattle.rules.specs.Division.{sumOf, oneIf, wholePart, remainder, leftOver, rank, shareOf, share}
-use Rattle.laws.specs.Sums.{one-le, sum-cong, sum-mono, sum-mul, sum-one, sum-map}
+use Rattle.laws.specs.Sums.{one-le, sum-cong, sum-mono, sum-mul, sum-mem, sum-one, sum-map}
 
 one-or : (a b : Bool) → oneIf a ≤ oneIf (a || b)
 one-or true b = le-refl 1
@@ -99,6 +99,20 @@ module _ {A : Type 0} (code : A → List ℕ) (weight : A → ℕ) (x : ℕ) whe
       go : (w : ℕ) → sumOf weight all ≡ w → share code weight x all a ≤ weight a
       go zero e = omega (arith, share-of-none all a (omega arith))
       go (suc w) e = cond-le (eqb x 0 || eqb (sumOf weight all) 0) (share-le all (omega arith) a h)
+
+  -- "X is at most W": where it is W, each gets its weight and nothing is left over
+  pub share-whole : (all : List A) → x ≡ sumOf weight all → (a : A) → List·Memᴰ a all → share code weight x all a ≡ weight a
+  unfolding share shareOf leftOver
+  share-whole all e a m = go (sumOf weight all) refl
+    where
+      go : (w : ℕ) → sumOf weight all ≡ w → share code weight x all a ≡ weight a
+      go zero z = omega (arith, share-of-none all a (omega arith), sum-mem weight all a m)
+      go (suc w) z =
+          let some : 0 < sumOf weight all = omega arith in
+          let part : (b : A) → wholePart code weight x (sumOf weight all) b ≡ weight b =
+          λ b. ap (λ n. n / sumOf weight all) (omega (arith, ap (λ n. n * weight b) e)) ∙ add-mul-div-right 0 (weight b) some ∙ omega (arith, zero-div (sumOf weight all)) in
+          let left : x - sumOf (wholePart code weight x (sumOf weight all)) all ≡ 0 = omega (arith, sum-cong (wholePart code weight x (sumOf weight all)) weight all (λ b k. part b)) in
+          rw (ne-eqb x 0 (λ q. omega arith), ne-eqb (sumOf weight all) 0 (λ q. omega arith), left, part a, le-ltb (rank code weight x (sumOf weight all) all a) 0 (omega arith)) (omega arith)
 
   pub share-none : (all : List A) → x ≤ sumOf weight all → (a : A) → weight a ≡ 0 → share code weight x all a ≡ 0
   share-none all h a e = omega (arith, share-at-most all h a)

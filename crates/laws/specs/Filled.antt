@@ -6,8 +6,8 @@ use mathlib.Core.List.{List, _++_, map, append-assoc}
 use native.Mathlib.Numerals.{add-one}
 use native.Mathlib.Nat.{add-zero}
 use native.Mathlib.Omega.{arith}
-use lib.ListN.{length, getD, set, drop, take-append-drop, List·getD-append}
-use lib.Seq.{set-at, drop-cons, getD-append-add, getD-drop}
+use lib.ListN.{length, getD, set, drop, take-append-drop, length-append, length-drop, List·getD-append}
+use lib.Seq.{set-at, drop-at, drop-cons, getD-append-add, getD-drop}
 use Rattle.laws.specs.Sums.{upTo, take-upTo}
 use Rattle.laws.specs.Indices.{map-more, map-below, length-map-upTo, getD-map-upTo}
 
@@ -32,3 +32,10 @@ module _ {A : Type 0} where
   -- a table of what stands there already
   pub filled-same : (f : ℕ → A) (n : ℕ) (l : List A) (d : A) → n ≤ length l → ((i : ℕ) → i < n → f i ≡ getD l i d) → filled f n l ≡ l
   filled-same f n l d h same = rw (map-below f (λ i. getD l i d) n same, take-upTo d l n h) (take-append-drop n l)
+
+  -- a table over another of as many places
+  pub filled-filled : (f g : ℕ → A) (n : ℕ) (l : List A) → filled f n (filled g n l) ≡ filled f n l
+  filled-filled f g n l = ap (λ r. map f (upTo n) ++ r) (drop-at (map g (upTo n)) (drop n l) n (length-map-upTo g n))
+
+  pub length-filled : (f : ℕ → A) (n : ℕ) (l : List A) → n ≤ length l → length (filled f n l) ≡ length l
+  length-filled f n l h = omega (arith, length-append (map f (upTo n)) (drop n l), length-map-upTo f n, length-drop n l)

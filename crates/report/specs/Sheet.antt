@@ -1,8 +1,10 @@
 -- The bytes that a book's customers come to, in a report and in a listing: their codes stand in the book, each behind its field's length.
 -- Assumes nothing.
 use Prim.Native.Nat.{ℕ, _+_, _-_, _≤_, _<_}
+use mathlib.Core.Bool.{Bool, true, false}
 use mathlib.Core.List.{List, _++_, map}
 use lib.ListN.{length, getD, take, drop}
+use Rattle.rules.specs.Limits.{mostCustomers, longestCode}
 use Rattle.rules.specs.Cascade.{Line}
 use Rattle.rules.specs.Report.{joined, reported, printed}
 use Rattle.laws.specs.Sums.{upTo}
@@ -34,20 +36,32 @@ sheet book starts standings offset count total residue =
 abbrev pub lineAt : Sheet → ℕ → Line
 lineAt s i = shown (codeAt (s .book) (s .starts) i) (standingOf (getD (s .standings) i 0)) (getD (s .offset) i 0)
 
-unfoldable pub reportBytes : Sheet → List ℕ
-reportBytes s = reportHead (s .total) (s .residue) ++ joined reported (map (lineAt s) (upTo (s .count)))
+-- what stands before the customers, and a customer: in a listing, or in a report
+abbrev pub frontBytes : Bool → ℕ → ℕ → List ℕ
+frontBytes true = listedHead
+frontBytes false = reportHead
 
-unfoldable pub listingBytes : Sheet → List ℕ
-listingBytes s = listedHead (s .total) (s .residue) ++ joined printed (map (lineAt s) (upTo (s .count)))
+abbrev pub lineBytes : Bool → Line → List ℕ
+lineBytes true = printed
+lineBytes false = reported
+
+unfoldable pub sheetBytes : Bool → Sheet → List ℕ
+sheetBytes listed s = frontBytes listed (s .total) (s .residue) ++ joined (lineBytes listed) (map (lineAt s) (upTo (s .count)))
+
+abbrev pub reportBytes : Sheet → List ℕ
+reportBytes s = sheetBytes false s
+
+abbrev pub listingBytes : Sheet → List ℕ
+listingBytes s = sheetBytes true s
 
 -- at most 256 customers, each with a place in the book behind which its code stands
 pub record Code (book starts : List ℕ) (i : ℕ) : Type 0 where
   pub behind : 0 < getD starts i 0
-  pub short : sizeAt book starts i ≤ 12
+  pub short : sizeAt book starts i ≤ longestCode
   pub inside : getD starts i 0 + sizeAt book starts i ≤ length book
 
 pub record Placed (book starts offset : List ℕ) (count : ℕ) : Type 0 where
-  pub few : count ≤ 256
+  pub few : count ≤ mostCustomers
   pub started : count ≤ length starts
   pub wide : count ≤ length offset
   pub code : (i : ℕ) → i < count → Code book starts i

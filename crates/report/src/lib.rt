@@ -7,7 +7,8 @@ ghost use lib.ListN.{length, getD};
 ghost use Rattle.cascade.specs.Columns.{standingOf};
 ghost use Rattle.writing.specs.Written.{Room, Wrote};
 ghost use Rattle.entries.specs.Entries.{reportedLength};
-ghost use Rattle.report.specs.Sheet.{sheet, reportBytes, listingBytes, Placed};
+ghost use Rattle.writing.specs.Shown.{shown};
+ghost use Rattle.report.specs.Sheet.{sheet, frontBytes, lineBytes, sheetBytes, reportBytes, Placed};
 
 // The standing of a byte.
 fn standing_of(byte: u8) -> Standing
@@ -59,36 +60,40 @@ pub fn report_length(
     n
 }
 
-// The report, from the front of the buffer on.
-pub fn put_report(
-    out: &mut [u8],
-    book: &[u8],
-    starts: &[u16],
-    standings: &[u8],
-    offset: &[u32],
-    count: usize,
-    total: u64,
-    residue: u64,
-) -> usize
-    requires { ⌜ Placed (now book) (now starts) (now offset) count ⌝ }
-    requires { ⌜ count ≤ length (now standings) ⌝ }
-    requires { ⌜ Room 0 (reportBytes (sheet (now book) (now starts) (now standings) (now offset) count total residue)) (now out) ⌝ }
-    ensures { λ r. ⌜ Wrote 0 (reportBytes (sheet (now (book .entry)) (now (starts .entry)) (now (standings .entry)) (now (offset .entry)) count total residue)) (now (out .entry)) (now (out .exit)) r ⌝ }
+// What stands before the customers in a listing, or in a report.
+fn put_front(out: &mut [u8], total: u64, residue: u64, listed: bool) -> usize
+    requires { ⌜ Room 0 (frontBytes listed total residue) (now out) ⌝ }
+    ensures { λ r. ⌜ Wrote 0 (frontBytes listed total residue) (now (out .entry)) (now (out .exit)) r ⌝ }
 {
-    let mut at = entries::put_head(out, total, residue);
-    let mut i: usize = 0;
-    while i < count {
-        let start = starts[i] as usize;
-        let end = start + size_at(book, start);
-        let standing = standing_of(standings[i]);
-        at = entries::put_reported(out, at, &book[start..end], standing, offset[i] as u64);
-        i += 1;
+    if listed {
+        printing::put_printed_head(out, total, residue)
+    } else {
+        entries::put_head(out, total, residue)
     }
-    at
 }
 
-// The listing, from the front of the buffer on.
-pub fn put_listing(
+// A customer in a listing, or in a report.
+fn put_line(
+    out: &mut [u8],
+    at: usize,
+    code: &[u8],
+    standing: Standing,
+    offset: u64,
+    listed: bool,
+) -> usize
+    requires { ⌜ length (now code) ≤ 12 ⌝ }
+    requires { ⌜ Room at (lineBytes listed (shown (now code) standing offset)) (now out) ⌝ }
+    ensures { λ r. ⌜ Wrote at (lineBytes listed (shown (now (code .entry)) standing offset)) (now (out .entry)) (now (out .exit)) r ⌝ }
+{
+    if listed {
+        printing::put_printed(out, at, code, standing, offset)
+    } else {
+        entries::put_reported(out, at, code, standing, offset)
+    }
+}
+
+// The listing or the report, from the front of the buffer on.
+pub fn put_sheet(
     out: &mut [u8],
     book: &[u8],
     starts: &[u16],
@@ -97,19 +102,27 @@ pub fn put_listing(
     count: usize,
     total: u64,
     residue: u64,
+    listed: bool,
 ) -> usize
     requires { ⌜ Placed (now book) (now starts) (now offset) count ⌝ }
     requires { ⌜ count ≤ length (now standings) ⌝ }
-    requires { ⌜ Room 0 (listingBytes (sheet (now book) (now starts) (now standings) (now offset) count total residue)) (now out) ⌝ }
-    ensures { λ r. ⌜ Wrote 0 (listingBytes (sheet (now (book .entry)) (now (starts .entry)) (now (standings .entry)) (now (offset .entry)) count total residue)) (now (out .entry)) (now (out .exit)) r ⌝ }
+    requires { ⌜ Room 0 (sheetBytes listed (sheet (now book) (now starts) (now standings) (now offset) count total residue)) (now out) ⌝ }
+    ensures { λ r. ⌜ Wrote 0 (sheetBytes listed (sheet (now (book .entry)) (now (starts .entry)) (now (standings .entry)) (now (offset .entry)) count total residue)) (now (out .entry)) (now (out .exit)) r ⌝ }
 {
-    let mut at = printing::put_printed_head(out, total, residue);
+    let mut at = put_front(out, total, residue, listed);
     let mut i: usize = 0;
     while i < count {
         let start = starts[i] as usize;
         let end = start + size_at(book, start);
         let standing = standing_of(standings[i]);
-        at = printing::put_printed(out, at, &book[start..end], standing, offset[i] as u64);
+        at = put_line(
+            out,
+            at,
+            &book[start..end],
+            standing,
+            offset[i] as u64,
+            listed,
+        );
         i += 1;
     }
     at

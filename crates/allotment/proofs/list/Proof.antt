@@ -11,6 +11,7 @@ use Rattle.rules.specs.Book.{Refused}
 use Rattle.rules.specs.Report.{listingOf}
 use Rattle.laws.specs.Digits.{digits-length-20}
 use Rattle.printing.specs.Printed.{refusal-length}
+use Rattle.allotment.specs.Worked.{listingRoom}
 use Rattle.allotment.proofs.Calls.{Stops, stops, Goes, goes}
 use borrow.Author.Needs.{needs}
 use Rattle.allotment.proofs.list.Statement.{statement}
@@ -44,7 +45,7 @@ module _ (c : tie.Then1) where
   place-fits : Fits w64 place
   place-fits = search needs
 
-  short : length (listingOf (Refused number place)) ≤ 8192
+  short : length (listingOf (Refused number place)) ≤ listingRoom
   short = omega (arith, refusal-length number place, digits-length-20 number (omega (arith, number-fits)), digits-length-20 place (omega (arith, place-fits)))
 
 slice-aggregate-work-out : tie.Need-slice-aggregate-work-out
@@ -78,17 +79,17 @@ returns c =
       room = omega (arith, short t, begin (came (t .before)) .pre, p .put-refusal .ensures .next);
     })
 
-slice-aggregate-put-listing : tie.Need-slice-aggregate-put-listing
-slice-aggregate-put-listing c = search needs
+slice-aggregate-put-sheet : tie.Need-slice-aggregate-put-sheet
+slice-aggregate-put-sheet c = search needs
 
-slice-aggregate-put-listing-2 : tie.Need-slice-aggregate-put-listing-2
-slice-aggregate-put-listing-2 c = search needs
+slice-aggregate-put-sheet-2 : tie.Need-slice-aggregate-put-sheet-2
+slice-aggregate-put-sheet-2 c = search needs
 
-slice-aggregate-put-listing-3 : tie.Need-slice-aggregate-put-listing-3
-slice-aggregate-put-listing-3 c = search needs
+slice-aggregate-put-sheet-3 : tie.Need-slice-aggregate-put-sheet-3
+slice-aggregate-put-sheet-3 c = search needs
 
-put-listing-requires : tie.Need-put-listing-requires
-put-listing-requires c κs = let e = c .before .before .before .before .before in let g = gone e in (g .placed, (g .stood, omega (arith, g .short, begin (came (e .before)) .pre)))
+put-sheet-requires : tie.Need-put-sheet-requires
+put-sheet-requires c κs = let e = c .before .before .before .before .before in let g = gone e in (g .placed, (g .stood, omega (arith, g .short, begin (came (e .before)) .pre)))
 
 same-length-2 : tie.Need-same-length-2
 same-length-2 c = search needs
@@ -99,9 +100,9 @@ returns-2 c =
     let e = p .before .before .before .before .before .before in
     let g = gone e in
     rw (g .lists) (record {
-      buffer = p .put-listing .ensures .whole;
-      size = p .put-listing .ensures .next ∙ zero-add _;
-      room = omega (arith, g .short, begin (came (e .before)) .pre, p .put-listing .ensures .next);
+      buffer = p .put-sheet .ensures .whole;
+      size = p .put-sheet .ensures .next ∙ zero-add _;
+      room = omega (arith, g .short, begin (came (e .before)) .pre, p .put-sheet .ensures .next);
     })
 
 pub list-spec : {M : Type 1} → statement M
@@ -116,9 +117,9 @@ list-spec =
     put-refusal-requires
     same-length
     returns
-    slice-aggregate-put-listing
-    slice-aggregate-put-listing-2
-    slice-aggregate-put-listing-3
-    put-listing-requires
+    slice-aggregate-put-sheet
+    slice-aggregate-put-sheet-2
+    slice-aggregate-put-sheet-3
+    put-sheet-requires
     same-length-2
     returns-2)

@@ -23,8 +23,8 @@ report-length-requires c κs = search needs
 returns : tie.Need-returns
 returns c = let l = c .before in let a = start l .args in too-small (bytes l) (a .report .now) (l .report-length .result) (l .report-length .ensures (a .standings .now)) (c .if1 .taken)
 
-put-report-requires : tie.Need-put-report-requires
-put-report-requires c κs = let e = c .before in let l = e .before in let s = start l in (s .pre .0, (s .pre .1, omega (arith, e .if1 .left, l .report-length .ensures (s .args .standings .now))))
+put-sheet-requires : tie.Need-put-sheet-requires
+put-sheet-requires c κs = let e = c .before in let l = e .before in let s = start l in (s .pre .0, (s .pre .1, omega (arith, e .if1 .left, l .report-length .ensures (s .args .standings .now))))
 
 same-length : tie.Need-same-length
 same-length c = search needs
@@ -35,8 +35,8 @@ returns-2 c =
     let e = p .before .before in
     let l = e .before in
     let a = start l .args in
-    fits (bytes l) (a .report .now) _ (p .put-report .result) (omega (arith, e .if1 .left, l .report-length .ensures (a .standings .now))) (p .put-report .ensures .whole) (p .put-report .ensures .next)
+    fits (bytes l) (a .report .now) _ (p .put-sheet .result) (omega (arith, e .if1 .left, l .report-length .ensures (a .standings .now))) (p .put-sheet .ensures .whole) (p .put-sheet .ensures .next)
 
 pub report-lines-spec : {M : Type 1} → statement M
 report-lines-spec =
-    tie.close (tie.spec report-length-requires returns put-report-requires same-length returns-2)
+    tie.close (tie.spec report-length-requires returns put-sheet-requires same-length returns-2)

@@ -1,7 +1,9 @@
 -- The stakes of pending customers are summed up to i; each is at most 4,000,000, so the sum fits.
 -- Assumes nothing.
 use Prim.Native.Nat.{ℕ, _+_, _-_, _≤_, _<_}
-use mathlib.Core.Path.{_≡_, refl}
+use mathlib.Core.Path.{_≡_, refl, sym, _∙_}
+use mathlib.Core.Bool.{cond}
+use native.Mathlib.Nat.{sub-zero}
 use native.Mathlib.Omega.{arith}
 use borrow.Author.Needs.{needs}
 use lib.Dec.{eqb}
@@ -9,8 +11,8 @@ use Rattle.rules.specs.Division.{sumOf}
 use Rattle.laws.specs.Sums.{upTo}
 use Rattle.laws.specs.Indices.{sum-more, sum-bound}
 use Rattle.division.specs.Shares.{at}
-use Rattle.cascade.proofs.Weights.{cond-le}
-use Rattle.cascade.specs.State.{stakeAt}
+use Rattle.cascade.proofs.Weights.{weight-le}
+use Rattle.cascade.specs.State.{weightIn, stakeAt}
 use Rattle.cascade.proofs.owed.Statement.{statement}
 use Rattle.cascade.proofs.owed.Tie as tie
 
@@ -23,28 +25,41 @@ abbrev μ-loop : tie.MeasureT-loop
 abbrev start : tie.At-loop Inv-loop μ-loop → tie.Start Inv-loop μ-loop
 start b = b .before .before .before
 
+-- before the first tier nothing of a stake is offset
+whole : (standing stake : ℕ) → weightIn 0 standing stake 0 ≡ cond (eqb standing 0) stake 0
+whole standing stake = rw sub-zero
+
+added : (c : tie.After-weight-of Inv-loop μ-loop) →
+    let b = c .before .before .before .before in
+    c .weight-of .result ≡ stakeAt 0 (start b .args .standings .now) (start b .args .stakes .now) (b .loop .i)
+added c =
+    let b = c .before .before .before .before in
+    c .weight-of .ensures ∙ whole (at (start b .args .standings .now) (b .loop .i)) (at (start b .args .stakes .now) (b .loop .i))
+
 loop-holds : tie.Need-loop-holds Inv-loop μ-loop
 loop-holds c = (search needs, refl)
 
-shared-slice-read-stake-in : tie.Need-shared-slice-read-stake-in Inv-loop μ-loop
-shared-slice-read-stake-in c = search needs
+shared-slice-read-weight-of : tie.Need-shared-slice-read-weight-of Inv-loop μ-loop
+shared-slice-read-weight-of c = search needs
 
-mul-stake-in : tie.Need-mul-stake-in Inv-loop μ-loop
-mul-stake-in c = search needs
+mul-weight-of : tie.Need-mul-weight-of Inv-loop μ-loop
+mul-weight-of c = search needs
 
-shared-slice-read-stake-in-2 : tie.Need-shared-slice-read-stake-in-2 Inv-loop μ-loop
-shared-slice-read-stake-in-2 c = search needs
+shared-slice-read-weight-of-2 : tie.Need-shared-slice-read-weight-of-2 Inv-loop μ-loop
+shared-slice-read-weight-of-2 c = search needs
 
-stake-in-requires : tie.Need-stake-in-requires Inv-loop μ-loop
-stake-in-requires c κs = search needs
+weight-of-requires : tie.Need-weight-of-requires Inv-loop μ-loop
+weight-of-requires c κs =
+    let b = c .before .before .before in
+    record { within = λ z. omega arith; small = start b .pre .small (b .loop .i) (omega arith) }
 
 add-sum : tie.Need-add-sum Inv-loop μ-loop
 add-sum c =
     let b = c .before .before .before .before in
     let a = start b .args in
     let w = stakeAt 0 (a .standings .now) (a .stakes .now) in
-    let small : (j : ℕ) → j < b .loop .i + 1 → w j ≤ 4000000 = λ j h. cond-le (eqb (at (a .standings .now) j) 0) (start b .pre .small j (omega arith)) in
-    omega (arith, c .stake-in .ensures, b .loop .inv .1, sum-bound w 4000000 (b .loop .i) (λ j h. small j (omega arith)), small (b .loop .i) (omega arith), start b .pre .few)
+    let small : (j : ℕ) → j < b .loop .i + 1 → w j ≤ 4_000_000 = λ j h. rw (sym (whole (at (a .standings .now) j) (at (a .stakes .now) j))) (omega (arith, weight-le 0 (at (a .standings .now) j) (at (a .stakes .now) j) 0, start b .pre .small j (omega arith))) in
+    omega (arith, added c, b .loop .inv .1, sum-bound w 4_000_000 (b .loop .i) (λ j h. small j (omega arith)), small (b .loop .i) (omega arith), start b .pre .few)
 
 add-i : tie.Need-add-i Inv-loop μ-loop
 add-i c = search needs
@@ -53,7 +68,7 @@ loop-less : tie.Need-loop-less Inv-loop μ-loop
 loop-less c = search needs
 
 loop-again : tie.Need-loop-again Inv-loop μ-loop
-loop-again c = (search needs, rw sum-more (omega (arith, c .stake-in .ensures, c .before .before .before .before .loop .inv .1)))
+loop-again c = (search needs, rw sum-more (omega (arith, added c, c .before .before .before .before .loop .inv .1)))
 
 returns : tie.Need-returns Inv-loop μ-loop
 returns c = let e : c .before .loop .i ≡ start (c .before) .args .count = omega arith in rw e at (c .before .loop .inv .1)
@@ -65,10 +80,10 @@ owed-spec =
     Inv-loop
     μ-loop
     loop-holds
-    shared-slice-read-stake-in
-    mul-stake-in
-    shared-slice-read-stake-in-2
-    stake-in-requires
+    shared-slice-read-weight-of
+    mul-weight-of
+    shared-slice-read-weight-of-2
+    weight-of-requires
     add-sum
     add-i
     loop-less

@@ -1,82 +1,69 @@
--- X over the weights: the whole parts, the last of the lots left over, and then every member's lots. Where X is 0 nobody gets anything.
+-- X over the weights: the parts, the last of the lots left over, and then every member's lots. Where all of it is divided, each has its
+-- lots already.
 -- Assumes nothing.
-use Prim.Native.Nat.{ℕ}
-use mathlib.Core.Path.{_∙_}
+use Prim.Native.Nat.{ℕ, _≤_}
+use mathlib.Core.Path.{_≡_}
 use mathlib.Core.List.{List}
 use native.Mathlib.Omega.{arith}
 use borrow.Author.Needs.{needs}
-use Rattle.division.proofs.Division.{given-le, lacking, ready, divided, shares-none}
-use Rattle.division.specs.Shares.{sharesOver}
-use Rattle.division.specs.Last.{Ready}
+use lib.ListN.{length}
+use Rattle.division.proofs.Division.{given-le, parted, small, settled, all-divided}
+use Rattle.division.specs.Parts.{Ready}
 use Rattle.division.proofs.divide.Statement.{statement}
 use Rattle.division.proofs.divide.Tie as tie
 
--- where something is divided
-module _ (t : tie.Else1) where
+-- where less than all is divided
+module _ (t : tie.After-spread) where
   abbrev start : tie.Start
-  start = t .before .before .before .before
+  start = t .before .before .before .before .before
 
   abbrev keys : List ℕ
   keys = start .args .keys .now
 
-  begun : Ready (start .args .weights .now) (start .args .lots .now) (start .args .count) (start .args .x) (start .args .sum)
-  begun =
-      let p = start .pre in
-      record { asked = p .asked; total = p .total; some = omega (arith, p .asked .lots, p .total, t .if1 .left); size = p .room }
+  begun : Ready (start .args .lots .now) (start .args .count) (start .args .x) (start .args .sum)
+  begun = let p = start .pre in record { bounded = p .bounded; total = p .total; less = omega (arith, p .most, t .before .before .if1 .left) }
 
-clear-requires : tie.Need-clear-requires
-clear-requires c κs = search needs
+returns : tie.Need-returns
+returns c =
+    let s = c .before .before .before in
+    let p = s .pre in
+    all-divided (s .args .keys .now) (s .args .lots .now) (s .args .count) (s .args .x) (s .args .sum) (p .bounded .within) (p .total) (c .if1 .taken)
+
+spread-requires : tie.Need-spread-requires
+spread-requires c κs =
+    let p = c .before .before .before .before .pre in
+    record { bounded = p .bounded; total = p .total; less = omega (arith, p .most, c .before .if1 .left) }
+
+sub-spare : tie.Need-sub-spare
+sub-spare c = let t = c .before .before in given-le (keys t) (begun t) (t .spread .ensures)
+
+find-last-requires : tie.Need-find-last-requires
+find-last-requires c κs =
+    let t = c .before .before .before in
+    ((omega (arith, start t .pre .bounded .within), start t .pre .keyed), parted (keys t) (begun t) (t .spread .ensures))
+
+settle-requires : tie.Need-settle-requires
+settle-requires c κs =
+    let t = c .before .before .before .before .before in
+    ((omega (arith, start t .pre .bounded .within), start t .pre .keyed), small (keys t) (begun t) (t .spread .ensures))
 
 same-length : tie.Need-same-length
 same-length c = search needs
 
-returns : tie.Need-returns
-unfolding sharesOver
-returns c =
-    let t = c .before .before .before .before in
-    let a = t .before .before .before .before .args in
-    c .before .before .clear .ensures ∙ shares-none (a .keys .now) (a .weights .now) (a .count) (a .x) (a .lots .now) (t .if1 .taken)
-
-spread-requires : tie.Need-spread-requires
-spread-requires c κs = begun (c .before)
-
-sub-spare : tie.Need-sub-spare
-sub-spare c = let s = c .before .before in let t = s .before .before in given-le (keys t) (begun t) (s .spread .ensures)
-
-find-last-requires : tie.Need-find-last-requires
-find-last-requires c κs =
-    let s = c .before .before .before in
-    let t = s .before .before in
-    (start t .pre .keyed, lacking (keys t) (begun t) (s .spread .ensures))
-
-settle-requires : tie.Need-settle-requires
-settle-requires c κs =
-    let f = c .before .before .before in
-    let s = f .before .before .before .before in
-    let t = s .before .before in
-    (start t .pre .keyed, ready (keys t) (begun t) (s .spread .ensures) (f .find-last .ensures))
-
-same-length-2 : tie.Need-same-length-2
-same-length-2 c = search needs
-
 returns-2 : tie.Need-returns-2
-unfolding sharesOver
 returns-2 c =
-    let f = c .before .before .before .before .before .before in
-    let s = f .before .before .before .before in
-    let t = s .before .before in
-    divided (keys t) (begun t) (s .spread .ensures) (f .find-last .ensures) (c .before .before .settle .ensures) (omega (arith, t .if1 .left))
+    let f = c .before .before .before .before in
+    let t = f .before .before .before .before in
+    settled (keys t) (begun t) (t .spread .ensures) (f .find-last .ensures) (c .before .before .settle .ensures)
 
 pub divide-spec : {M : Type 1} → statement M
 divide-spec =
     tie.close
     (tie.spec
-    clear-requires
-    same-length
     returns
     spread-requires
     sub-spare
     find-last-requires
     settle-requires
-    same-length-2
+    same-length
     returns-2)

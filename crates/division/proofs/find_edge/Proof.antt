@@ -4,17 +4,16 @@ use Prim.Native.Nat.{_+_, _-_, _<_, _≤_}
 use mathlib.Core.Path.{_≡_}
 use native.Mathlib.Omega.{arith}
 use borrow.Author.Needs.{needs}
-use Rattle.division.specs.Shares.{at}
-use Rattle.division.specs.Last.{belowOf}
+use Rattle.division.specs.Parts.{countOf}
 use Rattle.division.proofs.find_edge.Statement.{statement}
 use Rattle.division.proofs.find_edge.Tie as tie
 
 abbrev Inv-loop : tie.InvT-loop
-Inv-loop values count need least most low₀ high₀ low high =
-    (least ≤ low) × ((low ≤ high) × ((high ≤ most) × ((belowOf (at values) count low < need) × (need ≤ belowOf (at values) count (high + 1)))))
+Inv-loop lots keys count edge need least most low₀ high₀ low high =
+    (least ≤ low) × ((low ≤ high) × ((high ≤ most) × ((countOf lots keys edge count low < need) × (need ≤ countOf lots keys edge count (high + 1)))))
 
 abbrev μ-loop : tie.MeasureT-loop
-μ-loop values count need least most low₀ high₀ low high = high - low
+μ-loop lots keys count edge need least most low₀ high₀ low high = high - low
 
 loop-holds : tie.Need-loop-holds Inv-loop μ-loop
 loop-holds c = omega arith

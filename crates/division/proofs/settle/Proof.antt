@@ -1,37 +1,35 @@
--- The lots stand in the array up to i.
+-- The lots stand in the array up to i, behind it still the parts.
 -- Assumes nothing.
-use Prim.Native.Nat.{_-_, _≤_}
-use mathlib.Core.Path.{_≡_, refl}
+use Prim.Native.Nat.{ℕ, _-_, _≤_}
+use mathlib.Core.Path.{_≡_, refl, ap, _∙_}
+use mathlib.Core.List.{List}
 use native.Mathlib.Omega.{arith}
-use borrow.Author.Needs.{needs}
 use lib.ListN.{length, length-set}
-use Rattle.division.proofs.Arrays.{over-map}
-use Rattle.division.proofs.Bounds.{product-le, rest-le, whole-le, inside}
+use Rattle.laws.specs.Filled.{filled-more, filled-next}
 use Rattle.division.specs.Shares.{at}
-use Rattle.division.specs.Last.{lotsAt, Settled}
+use Rattle.division.specs.Parts.{lotsAt, Settled}
+use borrow.Author.Needs.{needs}
 use Rattle.division.proofs.settle.Statement.{statement}
 use Rattle.division.proofs.settle.Tie as tie
 
 abbrev Inv-loop : tie.InvT-loop
-Inv-loop weights keys count x sum lots₀ edge most i₀ lots i = (i ≤ count) × (length lots ≡ length lots₀) × Settled weights keys lots₀ lots i x sum edge most
+Inv-loop lots₀ keys count edge most i₀ lots i = (i ≤ count) × (length lots ≡ length lots₀) × Settled lots₀ keys lots i edge most
 
 abbrev μ-loop : tie.MeasureT-loop
-μ-loop weights keys count x sum lots₀ edge most i₀ lots i = count - i
+μ-loop lots₀ keys count edge most i₀ lots i = count - i
+
+-- what is read is still the part
+still : {parts keys lots : List ℕ} {i lack key : ℕ} → Settled parts keys lots i lack key → at lots i ≡ at parts i
+still {parts} {keys} {i = i} {lack} {key} s = ap (λ l. at l i) (s .lots) ∙ filled-next (lotsAt parts keys lack key) i parts 0
 
 loop-holds : tie.Need-loop-holds Inv-loop μ-loop
-loop-holds c = (search needs, refl, record { settled = refl })
+loop-holds c = (search needs, refl, record { lots = refl })
 
-mul-part-of : tie.Need-mul-part-of Inv-loop μ-loop
-mul-part-of c = search needs
+mul-part : tie.Need-mul-part Inv-loop μ-loop
+mul-part c = search needs
 
-shared-slice-read-part-of : tie.Need-shared-slice-read-part-of Inv-loop μ-loop
-shared-slice-read-part-of c = search needs
-
-mul-part-of-2 : tie.Need-mul-part-of-2 Inv-loop μ-loop
-mul-part-of-2 c = omega (arith, product-le (c .before .before .before .before .before .before .pre .1) (c .before .before .loop .i) (omega arith))
-
-part-of-requires : tie.Need-part-of-requires Inv-loop μ-loop
-part-of-requires c κs = c .before .before .before .before .before .before .pre .1 .some
+slice-read-part : tie.Need-slice-read-part Inv-loop μ-loop
+slice-read-part c = search needs
 
 mul-one-more : tie.Need-mul-one-more Inv-loop μ-loop
 mul-one-more c = search needs
@@ -44,7 +42,9 @@ one-more-requires c κs = search needs
 
 add-lots : tie.Need-add-lots Inv-loop μ-loop
 add-lots c =
-    omega (arith, c .before .before .before .part-of .ensures .0, whole-le (c .before .before .before .before .before .before .before .before .before .before .pre .1) (c .before .before .before .before .before .before .loop .i) (omega arith))
+    let l = c .before .before .before .before .loop in
+    let s = c .before .before .before .before .before .before .before in
+    omega (arith, c .one-more .ensures .1, still (l .inv .2), s .pre .1 (l .i) (omega arith))
 
 mul-lots : tie.Need-mul-lots Inv-loop μ-loop
 mul-lots c = search needs
@@ -59,20 +59,18 @@ loop-less : tie.Need-loop-less Inv-loop μ-loop
 loop-less c = search needs
 
 loop-again : tie.Need-loop-again Inv-loop μ-loop
-unfolding lotsAt
 loop-again c =
-    let s = c .before .before .before .before .before .before .before .before .before .before in
-    let l = c .before .before .before .before .before .before .loop in
+    let l = c .before .before .before .before .loop in
+    let s = c .before .before .before .before .before .before .before in
     let a = s .args in
-    let lots = lotsAt (a .weights .now) (a .keys .now) (a .x) (a .sum) (a .last .lack) (a .last .key) in
-    let more = over-map lots (a .lots .now) (l .i) (inside (s .pre .1) (l .i) (omega arith)) in
-    (search needs, simp length-set (l .inv .1), record { settled = rw (l .inv .2 .settled, c .before .one-more .ensures .0, c .before .before .before .part-of .ensures .0, c .before .before .before .part-of .ensures .1) more })
+    let lots = lotsAt (a .lots .now) (a .keys .now) (a .last .lack) (a .last .key) in
+    (search needs, simp length-set (l .inv .1), record { lots = rw (c .one-more .ensures .0, still (l .inv .2), l .inv .2 .lots) (filled-more lots (l .i) (a .lots .now) 0 (omega arith)) })
 
 same-length : tie.Need-same-length Inv-loop μ-loop
 same-length c = omega arith
 
 returns : tie.Need-returns Inv-loop μ-loop
-returns c = let e : c .before .loop .i ≡ c .before .before .before .before .before .args .count = omega arith in rw e at (c .before .loop .inv .2)
+returns c = let e : c .before .loop .i ≡ c .before .before .before .before .args .count = omega arith in rw e at (c .before .loop .inv .2)
 
 pub settle-spec : {M : Type 1} → statement M
 settle-spec =
@@ -81,10 +79,8 @@ settle-spec =
     Inv-loop
     μ-loop
     loop-holds
-    mul-part-of
-    shared-slice-read-part-of
-    mul-part-of-2
-    part-of-requires
+    mul-part
+    slice-read-part
     mul-one-more
     shared-slice-read-one-more
     one-more-requires

@@ -13,7 +13,7 @@ use Rattle.laws.specs.Sums.{upTo}
 use Rattle.laws.specs.Indices.{sum-more, sum-below}
 use Rattle.laws.specs.Digits.{digits-length-20}
 use Rattle.entries.specs.Entries.{reportHead, reportedLength, reported-length, report-head-length}
-use Rattle.report.specs.Sheet.{sizeAt, Sheet, sheet, lineAt, reportBytes, Placed}
+use Rattle.report.specs.Sheet.{sizeAt, Sheet, sheet, lineAt, sheetBytes, reportBytes, Placed}
 use Rattle.report.proofs.First.{code-length, first, first-length}
 use Rattle.report.proofs.report_length.Statement.{statement}
 use Rattle.report.proofs.report_length.Tie as tie
@@ -24,7 +24,7 @@ lengthIn book starts offset i = reportedLength (sizeAt book starts i) (getD offs
 
 whole-length : (s : Sheet) → Placed (s .book) (s .starts) (s .offset) (s .count)
     → length (reportBytes s) ≡ length (reportHead (s .total) (s .residue)) + sumOf (lengthIn (s .book) (s .starts) (s .offset)) (upTo (s .count))
-unfolding reportBytes first
+unfolding sheetBytes first
 whole-length s placed =
     let each : (i : ℕ) → i < s .count → length (reported (lineAt s i)) ≡ lengthIn (s .book) (s .starts) (s .offset) i =
     λ i h. reported-length (lineAt s i) ∙ ap (λ k. reportedLength k (getD (s .offset) i 0)) (code-length (s .book) (s .starts) i (placed .code i h)) in

@@ -47,6 +47,7 @@ const LETTERS: &[u8; 36] = b"0123456789ABCDEFGHIJKLMNOPQRSTUVWXYZ";
 pub fn all() -> Vec<Book> {
     vec![
         named("small", listing()),
+        named("small, one customer", one_trade()),
         named("typical", typical()),
         named("dense", dense()),
         named("one tier", one_tier()),
@@ -96,6 +97,13 @@ fn listing() -> Vec<u8> {
     for (code, held, trades) in customers {
         put_customer(&mut book, code, held, trades);
     }
+    closed(book)
+}
+
+/// One customer with one trade, who is pending: the least that a call can be asked to work out.
+fn one_trade() -> Vec<u8> {
+    let mut book = terms();
+    put_customer(&mut book, "P1", [4, 0, 4], &[(b'B', 44_000, 4)]);
     closed(book)
 }
 

@@ -4,7 +4,6 @@ use Prim.Native.Nat.{ℕ, zero, suc, _+_, _*_, _-_, _≤_}
 use mathlib.Core.Path.{_≡_, refl, sym, ap, _∙_}
 use native.Mathlib.Omega.{arith}
 use borrow.Author.Needs.{needs}
-use lib.ListN.{length}
 use Rattle.cascade.specs.declared.Cascade.{Cascade}
 use Rattle.cascade.specs.Columns.{Columns, columns}
 use Rattle.cascade.specs.State.{afterTier, Steady}
@@ -20,16 +19,15 @@ tiers (suc k) c st = afterTier (suc k) c (tiers k c st)
 tiers-next : (k : ℕ) (c : Columns) (st : Cascade) → tiers (k + 1) c st ≡ afterTier (k + 1) c (tiers k c st)
 tiers-next k c st = let e : k + 1 ≡ suc k = omega arith in rw e refl
 
-steady : (k : ℕ) (c : Columns) (st : Cascade) → Steady 0 c st → Steady (k * 1024000000) c (tiers k c st)
+steady : (k : ℕ) (c : Columns) (st : Cascade) → Steady 0 c st → Steady (k * 1_024_000_000) c (tiers k c st)
 steady zero c st s = steady-wider (omega arith) s
 steady (suc k) c st s = steady-wider (omega arith) (steady-after (suc k) c (tiers k c st) (steady k c st s))
 
 abbrev Inv-loop : tie.InvT-loop
-Inv-loop keys standings stakes count owed weights₀ lots₀ state₀ k₀ weights lots state k =
-    (k ≤ 3) × (length weights ≡ 256) × (length lots ≡ 256) × (state ≡ tiers k (columns keys standings stakes count) state₀)
+Inv-loop keys standings stakes count owed state₀ k₀ state k = (k ≤ 3) × (state ≡ tiers k (columns keys standings stakes count) state₀)
 
 abbrev μ-loop : tie.MeasureT-loop
-μ-loop keys standings stakes count owed weights₀ lots₀ state₀ k₀ weights lots state k = 3 - k
+μ-loop keys standings stakes count owed state₀ k₀ state k = 3 - k
 
 abbrev start : tie.At-loop Inv-loop μ-loop → tie.Start Inv-loop μ-loop
 start b = b .before .before .before .before .before
@@ -41,37 +39,28 @@ returns : tie.Need-returns Inv-loop μ-loop
 returns c = let s = c .before .before .before .before in none-moved _ (s .args .self) (s .pre .0 .wide) (omega (arith, s .pre .1, c .if1 .taken))
 
 loop-holds : tie.Need-loop-holds Inv-loop μ-loop
-loop-holds c = (search needs, refl, refl, refl)
+loop-holds c = (search needs, refl)
 
 add-k : tie.Need-add-k Inv-loop μ-loop
 add-k c = search needs
 
-slice-aggregate-tier : tie.Need-slice-aggregate-tier Inv-loop μ-loop
-slice-aggregate-tier c = search needs
-
-slice-aggregate-tier-2 : tie.Need-slice-aggregate-tier-2 Inv-loop μ-loop
-slice-aggregate-tier-2 c = search needs
-
 tier-requires : tie.Need-tier-requires Inv-loop μ-loop
 tier-requires c κs =
-    let b = c .before .before .before in
-    let s = start b in (
-      rw (b .loop .inv .3) (steady-wider (omega arith) (steady (b .loop .k) (cols b) (s .args .self) (s .pre .0))),
-      record { first = omega arith; last = omega arith; weighing = omega (arith, s .pre .0 .few, b .loop .inv .1); room = omega (arith, s .pre .0 .few, b .loop .inv .2) },
-    )
+    let b = c .before in
+    let s = start b in
+    (rw (b .loop .inv .1) (steady-wider (omega arith) (steady (b .loop .k) (cols b) (s .args .self) (s .pre .0))), (omega arith, omega arith))
 
 loop-less : tie.Need-loop-less Inv-loop μ-loop
 loop-less c = search needs
 
 loop-again : tie.Need-loop-again Inv-loop μ-loop
 loop-again c =
-    let t = c .before .before in
-    let b = t .before .before .before .before in
-    let worked : t .tier .result ≡ afterTier (b .loop .k + 1) (cols b) (b .loop .state) = t .tier .ensures in
-    (search needs, search needs, search needs, worked ∙ ap (afterTier (b .loop .k + 1) (cols b)) (b .loop .inv .3) ∙ sym (tiers-next (b .loop .k) (cols b) (start b .args .self)))
+    let b = c .before .before in
+    let worked : c .tier .result ≡ afterTier (b .loop .k + 1) (cols b) (b .loop .state) = c .tier .ensures in
+    (search needs, worked ∙ ap (afterTier (b .loop .k + 1) (cols b)) (b .loop .inv .1) ∙ sym (tiers-next (b .loop .k) (cols b) (start b .args .self)))
 
 returns-2 : tie.Need-returns-2 Inv-loop μ-loop
-returns-2 c = let b = c .before in let e : b .loop .k ≡ 3 = omega arith in b .loop .inv .3 ∙ ap (λ k. tiers k (cols b) (start b .args .self)) e
+returns-2 c = let b = c .before in let e : b .loop .k ≡ 3 = omega arith in b .loop .inv .1 ∙ ap (λ k. tiers k (cols b) (start b .args .self)) e
 
 pub run-spec : {M : Type 1} → statement M
 run-spec =
@@ -82,8 +71,6 @@ run-spec =
     returns
     loop-holds
     add-k
-    slice-aggregate-tier
-    slice-aggregate-tier-2
     tier-requires
     loop-less
     loop-again
