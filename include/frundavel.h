@@ -1,8 +1,9 @@
 /*
  * frundavel.h - the forced offsetting allotment, for C99 and C++.
  *
- * One call: a book and a lent buffer in; a number, a place and a length out. The rules are those of document 01; every byte that the
- * call writes, and every answer that it gives, is proved to be what they say.
+ * One call: a book and a lent buffer in; a number, a place and a length out. The rules, with worked examples, are in docs/RULES.md of
+ * the source tree. Every byte that the call writes, and every answer that it gives, is proved to be what their definitions there
+ * (crates/rules/specs) say; docs/ASSUMPTIONS.md says what that rests on.
  *
  * Link with liballotment.a. It is for x86-64 Linux only today.
  */

@@ -1,7 +1,7 @@
 -- What a book comes to is its answer and its listing.
 -- Assumes nothing.
 use Prim.Native.Nat.{ℕ, _+_, _≤_, _<_}
-use mathlib.Core.Path.{_≡_, refl, sym, ap, subst, _∙_}
+use mathlib.Core.Path.{_≡_, refl, sym, ap, _∙_}
 use mathlib.Core.List.{List}
 use native.Mathlib.Omega.{arith}
 use native.Mathlib.Nat.{zero-add}
@@ -14,7 +14,7 @@ use Rattle.rules.specs.Answer.{fitted, answerOf, answer}
 use Rattle.rules.specs.Answer.{refused as refused01}
 use Rattle.laws.specs.Sane.{accepted-sane, refused-above}
 use Rattle.fields.specs.declared.Refusal.{Refusal}
-use Rattle.fields.specs.Reading.{refusal}
+use Rattle.fields.specs.Reading.{noRefusal}
 use Rattle.cascade.specs.Columns.{columns}
 use Rattle.cascade.specs.State.{Steady}
 use Rattle.roll.specs.declared.Roll.{Roll}
@@ -23,8 +23,7 @@ use Rattle.writing.specs.Written.{written, written-front}
 use Rattle.report.specs.Sheet.{reportBytes, listingBytes, Placed}
 use Rattle.allotment.specs.declared.Closed.{Closed}
 use Rattle.allotment.specs.declared.Worked.{Worked}
-use Rattle.allotment.specs.declared.Answer.{Answer}
-use Rattle.allotment.specs.Worked.{listingRoom, atFirst, closedOf, sheetOf, Shows, Came}
+use Rattle.allotment.specs.Worked.{listingRoom, atFirst, closedOf, sheetOf, Came}
 use Rattle.allotment.specs.Answered.{Answered}
 use Rattle.allotment.proofs.Start.{start-steady}
 use Rattle.allotment.proofs.Shown.{report-is, listing-is, placed}
@@ -36,14 +35,14 @@ module _ (s keys starts standings stakes : List ℕ) (r : Roll) (e : Rolled s (j
   refuses w f z = go (judge s) e
     where
       go : (v : Verdict) → Rolled s v keys starts standings stakes r → Came s v starts standings w
-      go (Refused n place) j = f ∙ j
+      go (Refused n place) j = f ∙ ap (λ (x : Roll). x .refusal) j
       go (Accepted terms cs) j = absurd (z (ap (λ (x : Refusal). x .number) (j .0)))
 
   pub record Accepts : Type 0 where
     pub terms : Terms
     pub customers : List Customer
     pub accepted : judge s ≡ Accepted terms customers
-    pub told : r .refusal ≡ refusal 0 0
+    pub told : r .refusal ≡ noRefusal
     pub held : Held s terms customers keys starts standings stakes (r .count)
 
   pub accepts : r .refusal .number ≡ 0 → Accepts
@@ -51,7 +50,7 @@ module _ (s keys starts standings stakes : List ℕ) (r : Roll) (e : Rolled s (j
     where
       go : (v : Verdict) → judge s ≡ v → Rolled s v keys starts standings stakes r → Accepts
       go (Refused n place) j h =
-          absurd (let q : r .refusal .number ≡ n = ap (λ (x : Refusal). x .number) h in let p = refused-above s n place j in omega arith)
+          absurd (let q : r .refusal .number ≡ n = ap (λ (x : Roll). x .refusal .number) h in let p = refused-above s n place j in omega arith)
       go (Accepted terms cs) j h = record { terms = terms; customers = cs; accepted = j; told = h .0; held = h .1 }
 
   module _ (a : Accepts) (room : Room keys starts standings stakes) where

@@ -1,8 +1,8 @@
 -- The columns that a roll fills show the customers' lines, with keys for codes; nobody holds too much for the cascade.
 -- Assumes nothing.
-use Prim.Native.Nat.{ℕ, zero, suc, _+_, _-_, _≤_, _<_, min, max}
-use mathlib.Core.Path.{_≡_, refl, sym, ap, ap₂, subst, _∙_}
-use mathlib.Core.List.{List, [], _∷_, _++_, map, map-map, List·Memᴰ, List·Memᴰ·head, List·Memᴰ·tail, List·Memᴰ·cases-cons, List·Memᴰ·not-nil}
+use Prim.Native.Nat.{ℕ, zero, suc, _-_, _≤_, _<_}
+use mathlib.Core.Path.{_≡_, refl, sym, ap, subst, _∙_}
+use mathlib.Core.List.{List, [], _∷_, map, map-map, List·Memᴰ, List·Memᴰ·cases-cons, List·Memᴰ·not-nil}
 use mathlib.Core.Bool.{true}
 use mathlib.Core.Logic.{⊎-elim}
 use native.Mathlib.Omega.{arith}
@@ -15,20 +15,20 @@ use Rattle.rules.specs.declared.Standing.{Standing}
 use Rattle.rules.specs.declared.Standing.the-variants.{Pending, Tier1, Tier2, Tier3, Neither}
 use Rattle.rules.specs.Codes.{isCode}
 use Rattle.rules.specs.Figures.{lots}
-use Rattle.rules.specs.Book.{Customer, net}
-use Rattle.rules.specs.Standing.{standing, countedPending}
+use Rattle.rules.specs.Book.{Customer}
+use Rattle.rules.specs.Standing.{standing}
 use Rattle.rules.specs.Cascade.{Line, lineOf, offeredBy, pendingBy}
+use Rattle.laws.specs.CodeLength.{code-length}
 use Rattle.laws.specs.Sums.{upTo, map-upTo}
 use Rattle.laws.specs.Indices.{map-below}
 use Rattle.laws.specs.Keys.{keyOf, key-smaller}
 use Rattle.laws.specs.Recode.{recode, InOrder}
-use Rattle.laws.specs.Picks.{getD-in}
+use Rattle.laws.specs.Indices.{getD-in}
 use Rattle.laws.specs.Sane.{Sane, AllSane, Customers}
 use Rattle.laws.specs.All2.{all2-at}
 use Rattle.cascade.specs.Columns.{standingOf, offeredAs, pendingAs, Columns, columns, lineAt, linesOf}
 use Rattle.cascade.specs.State.{Steady}
 use Rattle.roll.specs.Roll.{byteOf, stakeAs, keyIn, standingIn, stakeIn, CodeIn, Held, Room}
-use Rattle.roll.proofs.Named.{code-length}
 use Rattle.allotment.specs.Worked.{atFirst}
 
 -- nobody at all, for places past the last customer

@@ -10,7 +10,7 @@ use Rattle.rules.specs.Division.{sumOf}
 use Rattle.rules.specs.Book.{Customer, Verdict, Refused, Accepted}
 use Rattle.rules.specs.Cascade.{pendingOf, outcome}
 use Rattle.rules.specs.Report.{report, listed}
-use Rattle.fields.specs.Reading.{refusal}
+use Rattle.fields.specs.Reading.{refusedAt, noRefusal}
 use Rattle.cascade.specs.declared.Cascade.{Cascade}
 use Rattle.cascade.specs.Columns.{Columns, linesOf}
 use Rattle.cascade.specs.State.{afterAll}
@@ -47,5 +47,5 @@ pub record Shows (book : List ℕ) (terms : Terms) (cs : List Customer) (starts 
   pub short : length (listingBytes (sheetOf book starts standings r)) ≤ listingRoom
 
 abbrev pub Came : List ℕ → Verdict → List ℕ → List ℕ → Worked → Type 0
-Came book (Refused n place) starts standings r = r .refusal ≡ refusal n place
-Came book (Accepted terms cs) starts standings r = (r .refusal ≡ refusal 0 0) × Shows book terms cs starts standings r
+Came book (Refused n place) starts standings r = r .refusal ≡ refusedAt n place
+Came book (Accepted terms cs) starts standings r = (r .refusal ≡ noRefusal) × Shows book terms cs starts standings r

@@ -1,8 +1,9 @@
 // The cascade: a state by value, with a method for one tier that hands the state back. The customers' columns are lent.
 use rules::MOST_CUSTOMERS;
+use rules::lesser;
 ghost use mathlib.Core.Path.{_≡_};
 ghost use lib.ListN.{length};
-ghost use Prim.Native.Nat.{_≤_, _<_, min};
+ghost use Prim.Native.Nat.{_≤_, _<_};
 ghost use Rattle.rules.specs.Division.{sumOf};
 ghost use Rattle.rules.specs.Cascade.{pendingOf};
 ghost use Rattle.laws.specs.Sums.{upTo};
@@ -75,12 +76,6 @@ fn deal(lots: &mut [u64], keys: &[u64], count: usize, x: u64, sum: u64, offset: 
 {
     division::divide(lots, keys, count, x, sum);
     add(offset, lots, count);
-}
-
-fn lesser(a: u64, b: u64) -> u64
-    ensures { λ r. ⌜ r ≡ min a b ⌝ }
-{
-    if a < b { a } else { b }
 }
 
 // What was pending at first.

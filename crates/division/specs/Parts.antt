@@ -7,6 +7,7 @@ use mathlib.Core.Bool.{Bool, cond, _&&_, _||_}
 use mathlib.Core.List.{List}
 use lib.Dec.{ltb, eqb}
 use lib.ListN.{length}
+use Rattle.rules.specs.Limits.{mostCustomers}
 use Rattle.rules.specs.Division.{sumOf, oneIf}
 use Rattle.laws.specs.Sums.{upTo}
 use Rattle.laws.specs.Filled.{filled}
@@ -78,7 +79,7 @@ pub record Spread (weights after : List ℕ) (count x sum r : ℕ) : Type 0 wher
 
 -- then the last: each lacks something, and at most a whole lot, and no more lots are left over than there are members;
 pub record Parted (parts : List ℕ) (count spare sum : ℕ) : Type 0 where
-  pub few : count ≤ 256
+  pub few : count ≤ mostCustomers
   pub spared : spare ≤ count
   pub some : (i : ℕ) → i < count → 0 < lackIn (at parts i)
   pub most : (i : ℕ) → i < count → lackIn (at parts i) ≤ sum

@@ -5,6 +5,7 @@ use Prim.Native.Nat.{ℕ, _≤_, _<_}
 use mathlib.Core.List.{List, [], _∷_}
 use mathlib.Core.Path.{_≡_}
 use lib.ListN.{length, getD}
+use Rattle.rules.specs.Limits.{mostCustomers}
 use Rattle.rules.specs.Division.{sumOf, share}
 use Rattle.laws.specs.Sums.{upTo}
 use Rattle.laws.specs.Filled.{filled}
@@ -24,7 +25,7 @@ divided keys count x weights = filled (shareAt keys weights count x) count weigh
 
 -- what is asked of the weights, of what is divided over them, and of the arrays that are lent
 pub record Bounded (weights : List ℕ) (count : ℕ) : Type 0 where
-  pub few : count ≤ 256
+  pub few : count ≤ mostCustomers
   pub within : count ≤ length weights
   pub small : (i : ℕ) → i < count → at weights i ≤ 4_000_000
 

@@ -1,7 +1,8 @@
 // X lots over weights by largest remainders; equal remainders go to the smaller key. One array: the weights stand in it before, the
 // lots after, and in between each member's part.
+use rules::lesser;
 ghost use mathlib.Core.Path.{_≡_};
-ghost use Prim.Native.Nat.{ℕ, _+_, _*_, _/_, _%_, _-_, _≤_, _<_, min, max};
+ghost use Prim.Native.Nat.{ℕ, _+_, _*_, _/_, _%_, _-_, _≤_, _<_, max};
 ghost use lib.ListN.{length};
 ghost use Rattle.rules.specs.Division.{oneIf};
 ghost use Rattle.division.specs.Shares.{at, divided, Lent};
@@ -102,12 +103,6 @@ fn find_edge(
         }
     }
     low
-}
-
-fn lesser(a: u64, b: u64) -> u64
-    ensures { λ r. ⌜ r ≡ min a b ⌝ }
-{
-    if a < b { a } else { b }
 }
 
 fn greater(a: u64, b: u64) -> u64

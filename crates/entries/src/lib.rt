@@ -1,5 +1,6 @@
 // The fields of a report, written into a lent buffer; and how many bytes they take.
 use rules::Standing;
+use rules::tag;
 use writing::digits_length;
 use writing::fill_digits;
 use writing::letter_of;
@@ -46,7 +47,7 @@ fn put_standing_field(out: &mut [u8], at: usize, standing: Standing) -> usize
     requires { ⌜ Room at (field "E" (letter standing ∷ [])) (now out) ⌝ }
     ensures { λ r. ⌜ Wrote at (field "E" (letter standing ∷ [])) (now (out .entry)) (now (out .exit)) r ⌝ }
 {
-    let value = put_tag(out, at, b'E', 1);
+    let value = put_tag(out, at, tag::E, 1);
     put_byte(out, value, letter_of(standing))
 }
 
@@ -62,9 +63,9 @@ pub fn put_reported(
     requires { ⌜ Room at (reported (shown (now code) standing offset)) (now out) ⌝ }
     ensures { λ r. ⌜ Wrote at (reported (shown (now (code .entry)) standing offset)) (now (out .entry)) (now (out .exit)) r ⌝ }
 {
-    let second = put_field(out, at, b'C', code);
+    let second = put_field(out, at, tag::C, code);
     let third = put_standing_field(out, second, standing);
-    put_number_field(out, third, b'O', offset)
+    put_number_field(out, third, tag::O, offset)
 }
 
 // What stands before the customers in a report.
@@ -72,8 +73,8 @@ pub fn put_head(out: &mut [u8], total: u64, residue: u64) -> usize
     requires { ⌜ Room 0 (reportHead total residue) (now out) ⌝ }
     ensures { λ r. ⌜ Wrote 0 (reportHead total residue) (now (out .entry)) (now (out .exit)) r ⌝ }
 {
-    let second = put_number_field(out, 0, b'T', total);
-    put_number_field(out, second, b'R', residue)
+    let second = put_number_field(out, 0, tag::T, total);
+    put_number_field(out, second, tag::R, residue)
 }
 
 pub fn reported_length(code_length: usize, offset: u64) -> usize

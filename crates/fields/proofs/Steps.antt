@@ -2,9 +2,9 @@
 -- field, with 3 at another tag, and go on with the figure where it is good.
 -- Assumes nothing.
 use Prim.Native.Nat.{ℕ, _+_}
-use mathlib.Core.Path.{_≡_, refl, sym, ap, _∙_, subst}
+use mathlib.Core.Path.{_≡_, refl, ap, _∙_}
 use mathlib.Core.List.{List, [], _∷_}
-use mathlib.Core.Bool.{Bool, true, false, cond}
+use mathlib.Core.Bool.{Bool, true, false}
 use lib.ListN.{length, drop}
 use lib.Dec.{eqb}
 use borrow.Author.Tests.{eqb-true}
@@ -12,15 +12,16 @@ use Rattle.rules.specs.declared.Form.{Form}
 use Rattle.rules.specs.declared.Figure.{Figure}
 use Rattle.rules.specs.declared.Figure.the-variants.{Comma, Malformed}
 use Rattle.rules.specs.declared.Figure.the-variants.{Value as Number}
+use Rattle.rules.specs.Refusal as refusal
 use Rattle.rules.specs.Figures.{figureOf}
 use Rattle.rules.specs.Fields.{Field, Whole, Cut, fieldsOf}
-use Rattle.rules.specs.Book.{Step, Stop, Next, figure}
+use Rattle.rules.specs.Book.{Step, Stop, figure}
 use Rattle.laws.specs.Fields.{fields-next}
 use Rattle.fields.specs.declared.Refusal.{Refusal}
 use Rattle.fields.specs.declared.FigureAt.{FigureAt}
 use Rattle.fields.specs.declared.FigureAt.the-variants.{Value}
 use Rattle.fields.specs.declared.FigureAt.the-variants.{Refused as NoFigure}
-use Rattle.fields.specs.Reading.{refusal, figureAt, figureFrom}
+use Rattle.fields.specs.Reading.{refusedAt, figureAt, figureFrom}
 
 module _ {R : Type 0} where
   abbrev pub onFigure : FigureAt → (Refusal → R) → (ℕ → ℕ → R) → R
@@ -29,19 +30,19 @@ module _ {R : Type 0} where
 
 -- what a reader of fields from `at` on does where a figure with this tag and form is due
 pub record Figured {B R : Type 0} (tag : ℕ) (form : Form) (at : ℕ) (run : List Field → R) (bad : Refusal → R) (go : Step B → ℕ → List Field → R) (next : ℕ → Step B) : Type 0 where
-  pub none : run [] ≡ bad (refusal 2 at)
-  pub cut : (fs : List Field) → run (Cut ∷ fs) ≡ bad (refusal 2 at)
-  pub other : (t : ℕ) (v : List ℕ) (fs : List Field) → eqb t tag ≡ false → run (Whole t v ∷ fs) ≡ bad (refusal 3 at)
+  pub none : run [] ≡ bad (refusedAt refusal.cutShort at)
+  pub cut : (fs : List Field) → run (Cut ∷ fs) ≡ bad (refusedAt refusal.cutShort at)
+  pub other : (t : ℕ) (v : List ℕ) (fs : List Field) → eqb t tag ≡ false → run (Whole t v ∷ fs) ≡ bad (refusedAt refusal.misplaced at)
   pub tagged : (v : List ℕ) (fs : List Field) → run (Whole tag v ∷ fs) ≡ go (figure (figureOf form v) next) (at + 3 + length v) fs
-  pub stopped : (n e : ℕ) (fs : List Field) → eqb n 9 ≡ false → go (Stop n) e fs ≡ bad (refusal n at)
+  pub stopped : (n e : ℕ) (fs : List Field) → eqb n refusal.uncovered ≡ false → go (Stop n) e fs ≡ bad (refusedAt n at)
 
 module _ {B R : Type 0} (s : List ℕ) {tag : ℕ} {form : Form} {at : ℕ} {run : List Field → R} {bad : Refusal → R} {go : Step B → ℕ → List Field → R} {next : ℕ → Step B}
     (d : Figured tag form at run bad go next) where
   valued : (fs : List Field) (e : ℕ) → fs ≡ fieldsOf (drop e s) → (f : Figure) →
       go (figure f next) e fs ≡ onFigure (figureAt at e f) bad (λ n e. go (next n) e (fieldsOf (drop e s)))
   valued fs e h (Number n) = ap (go (next n) e) h
-  valued fs e h Comma = d .stopped 4 e fs refl
-  valued fs e h Malformed = d .stopped 5 e fs refl
+  valued fs e h Comma = d .stopped refusal.comma e fs refl
+  valued fs e h Malformed = d .stopped refusal.malformed e fs refl
 
   pub figured : run (fieldsOf (drop at s)) ≡ onFigure (figureFrom at tag form (fieldsOf (drop at s))) bad (λ n e. go (next n) e (fieldsOf (drop e s)))
   figured = by (fieldsOf (drop at s)) refl

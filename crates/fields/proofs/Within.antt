@@ -10,13 +10,14 @@ use Rattle.rules.specs.declared.Form.{Form}
 use Rattle.rules.specs.declared.Figure.{Figure}
 use Rattle.rules.specs.declared.Figure.the-variants.{Comma, Malformed}
 use Rattle.rules.specs.declared.Figure.the-variants.{Value as Number}
+use Rattle.rules.specs.Refusal as refusal
 use Rattle.rules.specs.Figures.{figureOf}
 use Rattle.rules.specs.Fields.{Field, Whole, Cut}
 use Rattle.laws.specs.Figures.{figure-within}
 use Rattle.fields.specs.declared.FigureAt.{FigureAt}
 use Rattle.fields.specs.declared.FigureAt.the-variants.{Value}
 use Rattle.fields.specs.declared.FigureAt.the-variants.{Refused as NoFigure}
-use Rattle.fields.specs.Reading.{refusal, figureAt, figureFrom}
+use Rattle.fields.specs.Reading.{refusedAt, figureAt, figureFrom}
 
 -- what was read of a figure holds
 abbrev pub Most : Form → FigureAt → Type 0
@@ -28,7 +29,7 @@ figure-most at tag form [] = tt
 figure-most at tag form (Cut ∷ fs) = tt
 figure-most at tag form (Whole t v ∷ fs) = go (eqb t tag) (figureOf form v) refl
   where
-    go : (b : Bool) (f : Figure) → figureOf form v ≡ f → Most form (cond b (figureAt at (at + 3 + length v) f) (NoFigure (refusal 3 at)))
+    go : (b : Bool) (f : Figure) → figureOf form v ≡ f → Most form (cond b (figureAt at (at + 3 + length v) f) (NoFigure (refusedAt refusal.misplaced at)))
     go true (Number n) e = figure-within form v n e .1
     go true Comma e = tt
     go true Malformed e = tt

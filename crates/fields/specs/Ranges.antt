@@ -3,6 +3,7 @@
 use Prim.Native.Nat.{ℕ, _≤_}
 use mathlib.Core.List.{List}
 use lib.ListN.{length}
+use Rattle.rules.specs.Limits.{longestBook}
 
 abbrev pub Short : List ℕ → Type 0
-Short book = length book ≤ 60_000
+Short book = length book ≤ longestBook

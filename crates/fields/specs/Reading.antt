@@ -9,6 +9,7 @@ use Rattle.rules.specs.declared.Form.{Form}
 use Rattle.rules.specs.declared.Figure.{Figure}
 use Rattle.rules.specs.declared.Figure.the-variants.{Comma, Malformed}
 use Rattle.rules.specs.declared.Figure.the-variants.{Value as Number}
+use Rattle.rules.specs.Refusal as refusal
 use Rattle.rules.specs.Figures.{figureOf}
 use Rattle.rules.specs.Fields.{Field, Whole, Cut, fieldsOf}
 use Rattle.fields.specs.declared.Refusal.{Refusal}
@@ -16,24 +17,28 @@ use Rattle.fields.specs.declared.FigureAt.{FigureAt}
 use Rattle.fields.specs.declared.FigureAt.the-variants.{Value}
 use Rattle.fields.specs.declared.FigureAt.the-variants.{Refused as NoFigure}
 
-abbrev pub refusal : ℕ → ℕ → Refusal
-refusal n place = record { number = n; place = place }
+abbrev pub refusedAt : ℕ → ℕ → Refusal
+refusedAt n place = record { number = n; place = place }
+
+-- "Accepted: 0, place 0"
+abbrev pub noRefusal : Refusal
+noRefusal = record { number = refusal.accepted; place = 0 }
 
 abbrev pub refusalIn : FigureAt → Refusal
-refusalIn (Value n next) = refusal 0 0
+refusalIn (Value n next) = noRefusal
 refusalIn (NoFigure r) = r
 
 -- 4 and 5
 abbrev pub figureAt : ℕ → ℕ → Figure → FigureAt
 figureAt at next (Number n) = Value n next
-figureAt at next Comma = NoFigure (refusal 4 at)
-figureAt at next Malformed = NoFigure (refusal 5 at)
+figureAt at next Comma = NoFigure (refusedAt refusal.comma at)
+figureAt at next Malformed = NoFigure (refusedAt refusal.malformed at)
 
 -- the field with this tag, which begins at `at`, and its figure
 abbrev pub figureFrom : ℕ → ℕ → Form → List Field → FigureAt
-figureFrom at tag form [] = NoFigure (refusal 2 at)
-figureFrom at tag form (Cut ∷ fs) = NoFigure (refusal 2 at)
-figureFrom at tag form (Whole t v ∷ fs) = cond (eqb t tag) (figureAt at (at + 3 + length v) (figureOf form v)) (NoFigure (refusal 3 at))
+figureFrom at tag form [] = NoFigure (refusedAt refusal.cutShort at)
+figureFrom at tag form (Cut ∷ fs) = NoFigure (refusedAt refusal.cutShort at)
+figureFrom at tag form (Whole t v ∷ fs) = cond (eqb t tag) (figureAt at (at + 3 + length v) (figureOf form v)) (NoFigure (refusedAt refusal.misplaced at))
 
 -- the same in a book
 module _ (s : List ℕ) where

@@ -1,6 +1,7 @@
 // A field of the book at a place, and the figure of the field that is due there.
 use rules::Figure;
 use rules::Form;
+use rules::refusal;
 ghost use mathlib.Core.Path.{_≡_};
 ghost use Prim.Native.Nat.{_+_, _≤_};
 ghost use lib.ListN.{drop};
@@ -53,7 +54,7 @@ pub fn refusal_in(f: FigureAt) -> Refusal
 {
     match f {
         FigureAt::Value { number: _, next: _ } => Refusal {
-            number: 0,
+            number: refusal::ACCEPTED,
             place: 0,
         },
         FigureAt::Refused(r) => r,
@@ -77,14 +78,14 @@ pub fn figure_at(book: &[u8], at: usize, tag: u8, form: Form) -> FigureAt
         end,
     } = field_at(book, at)
     else {
-        return no_figure(2, at);
+        return no_figure(refusal::CUT_SHORT, at);
     };
     if found != tag {
-        return no_figure(3, at);
+        return no_figure(refusal::MISPLACED, at);
     }
     match figures::read_figure(&book[start..end], form) {
         Figure::Value(number) => FigureAt::Value { number, next: end },
-        Figure::Comma => no_figure(4, at),
-        Figure::Malformed => no_figure(5, at),
+        Figure::Comma => no_figure(refusal::COMMA, at),
+        Figure::Malformed => no_figure(refusal::MALFORMED, at),
     }
 }

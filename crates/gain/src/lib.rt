@@ -6,6 +6,7 @@ use rules::Position;
 use rules::Rate;
 use rules::Standing;
 use rules::Terms;
+use rules::lesser;
 ghost use mathlib.Core.Path.{_≡_};
 ghost use Prim.Native.Nat.{_*_};
 ghost use lib.IntN.{pos, _*ℤ_};
@@ -49,9 +50,7 @@ pub fn net_long(position: Position) -> bool
 pub fn counted_pending(position: Position) -> Lots
     ensures { λ r. ⌜ r .0 ≡ countedPending position ⌝ }
 {
-    let unfilled = position.unfilled;
-    let net = net_of(position);
-    if unfilled.0 < net.0 { unfilled } else { net }
+    Lots(lesser(position.unfilled.0, net_of(position).0))
 }
 
 // "total x 100,000 against rate x S x net"

@@ -1,25 +1,25 @@
 -- What a group with its position comes to, from the sums over its trades.
 -- Assumes nothing.
-use Prim.Native.Nat.{ℕ, _+_, _-_, _*_, _≤_, _<_}
+use Prim.Native.Nat.{ℕ, _-_, _*_, _≤_, _<_}
 use mathlib.Core.Path.{_≡_, refl, sym, ap, subst, _∙_}
 use mathlib.Core.List.{List, []}
-use mathlib.Core.Bool.{Bool, true, false, cond}
-use native.Mathlib.Nat.{le-refl, sub-zero}
+use mathlib.Core.Bool.{true, false}
+use native.Mathlib.Nat.{sub-zero}
 use native.Mathlib.Omega.{arith}
-use lib.Dec.{ltb}
-use lib.IntN.{ℤ, pos, natAbs, _+ℤ_, _-ℤ_, +ℤ-idl}
+use lib.IntN.{ℤ, pos, natAbs, _-ℤ_, +ℤ-idl}
 use borrow.Author.Tests.{lt-ltb, le-ltb}
 use Rattle.rules.specs.declared.Terms.{Terms}
 use Rattle.rules.specs.declared.Position.{Position}
+use Rattle.rules.specs.Refusal as refusal
 use Rattle.rules.specs.Fields.{Field}
-use Rattle.rules.specs.Book.{Customer, net, netLong, opened, uncovered, Trading}
+use Rattle.rules.specs.Book.{net, netLong, opened, uncovered, DueTrade, Open}
 use Rattle.rules.specs.Standing.{gainFrom, totalGain, standingAt, standing}
 use Rattle.laws.specs.Gains.{allGain, oldestGain, newest-first, newest-size, none}
-use Rattle.laws.specs.Groups.{Read, Bad, Good, closing, groupFrom}
+use Rattle.laws.specs.Groups.{Bad, groupFrom}
 use Rattle.trades.specs.declared.TradesAt.{TradesAt}
 use Rattle.trades.specs.declared.TradesAt.the-variants.{Closed, Refused}
 use Rattle.fields.specs.declared.Refusal.{Refusal}
-use Rattle.fields.specs.Reading.{refusal}
+use Rattle.fields.specs.Reading.{refusedAt}
 use Rattle.trades.specs.Trades.{tradesFrom, oldestFrom}
 use Rattle.group.specs.Group.{started, closedAt, groupAt}
 use Rattle.group.specs.declared.GroupAt.the-variants.{Refused as NoGroup}
@@ -35,9 +35,9 @@ module _ (terms : Terms) (p : Position) (place first : ℕ) (fs : List Field) wh
   means code = run-means (netLong p) (terms .settlement) terms place (started p code) first 0 (pos 0) fs refl refl none
 
   pub group-refused : (r : Refusal) → summed ≡ Refused r → (code : List ℕ) →
-      NoGroup r ≡ groupAt terms (groupFrom terms (Trading (started p code)) place first fs)
+      NoGroup r ≡ groupAt terms (groupFrom terms (Open DueTrade (started p code)) place first fs)
   group-refused r e code =
-      let m : groupFrom terms (Trading (started p code)) place first fs ≡ Bad (r .number) (r .place) =
+      let m : groupFrom terms (Open DueTrade (started p code)) place first fs ≡ Bad (r .number) (r .place) =
       subst (Means (netLong p) (terms .settlement) terms place (started p code) first fs) e (means code) in
       rw m
 
@@ -46,7 +46,7 @@ module _ (terms : Terms) (p : Position) (place first : ℕ) (fs : List Field) wh
     ended code = subst (Means (netLong p) (terms .settlement) terms place (started p code) first fs) e (means code)
 
     -- 9
-    pub group-uncovered : sum < net p → (code : List ℕ) → NoGroup (refusal 9 place) ≡ groupAt terms (groupFrom terms (Trading (started p code)) place first fs)
+    pub group-uncovered : sum < net p → (code : List ℕ) → NoGroup (refusedAt refusal.uncovered place) ≡ groupAt terms (groupFrom terms (Open DueTrade (started p code)) place first fs)
     group-uncovered h code =
         let d = ended code in
         let u : uncovered (d .customer) ≡ true = rw (d .position) (lt-ltb (opened (netLong p) (d .customer .trades)) (net p) (omega (arith, d .lots))) in
@@ -71,7 +71,7 @@ module _ (terms : Terms) (p : Position) (place first : ℕ) (fs : List Field) wh
       pub total-size : terms .settlement .0 ≤ 9999999 → natAbs total ≤ 9999999 * net p
       total-size hs = subst (λ (z : ℤ). natAbs z ≤ 9999999 * net p) (newest []) (newest-size (netLong p) (terms .settlement) hs (net p) (ended [] .priced))
 
-      pub group-closed : (code : List ℕ) → closedAt (standingAt terms p total) p at ≡ groupAt terms (groupFrom terms (Trading (started p code)) place first fs)
+      pub group-closed : (code : List ℕ) → closedAt (standingAt terms p total) p at ≡ groupAt terms (groupFrom terms (Open DueTrade (started p code)) place first fs)
       unfolding standing totalGain
       group-closed code =
           let d = ended code in

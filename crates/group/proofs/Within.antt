@@ -1,6 +1,7 @@
 -- A position that was read is in the range of its form.
 -- Assumes nothing.
 use Prim.Native.Nat.{ℕ, _≤_}
+use Prim.Native.Char.{code}
 use mathlib.Core.List.{List}
 use mathlib.Core.Bool.{Bool, true, false, cond}
 use native.Mathlib.Omega.{arith}
@@ -8,13 +9,14 @@ use lib.ListN.{drop}
 use Rattle.rules.specs.declared.Form.{Form}
 use Rattle.rules.specs.declared.Terms.{Terms}
 use Rattle.rules.specs.declared.Position.{Position}
+use Rattle.rules.specs.Refusal as refusal
 use Rattle.rules.specs.Figures.{heldForm, lots}
 use Rattle.rules.specs.Fields.{fieldsOf}
 use Rattle.rules.specs.Book.{overdrawn}
 use Rattle.fields.specs.declared.FigureAt.{FigureAt}
 use Rattle.fields.specs.declared.FigureAt.the-variants.{Value}
 use Rattle.fields.specs.declared.FigureAt.the-variants.{Refused as NoFigure}
-use Rattle.fields.specs.Reading.{refusal, figureFrom}
+use Rattle.fields.specs.Reading.{refusedAt, figureFrom}
 use Rattle.fields.proofs.Within.{Most, figure-most}
 use Rattle.group.specs.declared.PositionAt.{PositionAt}
 use Rattle.group.specs.declared.PositionAt.the-variants.{Read as ReadPosition}
@@ -34,11 +36,11 @@ module _ (s : List ℕ) where
   pub position-within : (terms : Terms) (at : ℕ) → HeldAt (positionOf s terms at)
   unfolding positionOf
   position-within terms at =
-      thenHeld heldForm (figureFrom at 75 heldForm (fieldsOf (drop at s))) _ (figure-most at 75 heldForm (fieldsOf (drop at s))) λ k atH hk.
-      thenHeld heldForm (figureFrom atH 72 heldForm (fieldsOf (drop atH s))) _ (figure-most atH 72 heldForm (fieldsOf (drop atH s))) λ h atQ hh.
-      thenHeld heldForm (figureFrom atQ 81 heldForm (fieldsOf (drop atQ s))) _ (figure-most atQ 81 heldForm (fieldsOf (drop atQ s))) λ q e hq.
+      thenHeld heldForm (figureFrom at (code "K") heldForm (fieldsOf (drop at s))) _ (figure-most at (code "K") heldForm (fieldsOf (drop at s))) λ k atH hk.
+      thenHeld heldForm (figureFrom atH (code "H") heldForm (fieldsOf (drop atH s))) _ (figure-most atH (code "H") heldForm (fieldsOf (drop atH s))) λ h atQ hh.
+      thenHeld heldForm (figureFrom atQ (code "Q") heldForm (fieldsOf (drop atQ s))) _ (figure-most atQ (code "Q") heldForm (fieldsOf (drop atQ s))) λ q e hq.
       go k h atQ e (record { long = lots k; short = lots h; unfilled = lots q }) hk hh (overdrawn terms (record { long = lots k; short = lots h; unfilled = lots q }))
     where
-      go : (k h atQ e : ℕ) (p : Position) → p .long .0 ≤ 1000000 → p .short .0 ≤ 1000000 → (b : Bool) → HeldAt (cond b (NoPosition (refusal 8 atQ)) (ReadPosition p e))
+      go : (k h atQ e : ℕ) (p : Position) → p .long .0 ≤ 1000000 → p .short .0 ≤ 1000000 → (b : Bool) → HeldAt (cond b (NoPosition (refusedAt refusal.overdrawn atQ)) (ReadPosition p e))
       go k h atQ e p hk hh true = tt
       go k h atQ e p hk hh false = record { long = omega arith; short = omega arith }

@@ -5,13 +5,15 @@ use rules::Lots;
 use rules::Position;
 use rules::Standing;
 use rules::Terms;
+use rules::refusal;
+use rules::tag;
 use trades::TradesAt;
 ghost use mathlib.Core.Path.{_≡_};
 ghost use mathlib.Core.List.{List};
 ghost use Prim.Native.Nat.{ℕ};
 ghost use lib.ListN.{drop};
 ghost use Rattle.rules.specs.Fields.{fieldsOf};
-ghost use Rattle.rules.specs.Book.{Coded, Trading, overdrawn};
+ghost use Rattle.rules.specs.Book.{DueTrade, Open, afterC, overdrawn};
 ghost use Rattle.rules.specs.Standing.{standingAt};
 ghost use Rattle.rules.specs.Cascade.{offeredBy, pendingBy};
 ghost use Rattle.laws.specs.Groups.{groupFrom};
@@ -53,7 +55,7 @@ fn overdrawn_by(terms: Terms, position: Position) -> bool
 fn read_position(book: &[u8], terms: Terms, at: usize) -> PositionAt
     ensures { λ r. ⌜ r ≡ positionOf (now (book .entry)) terms at ⌝ }
 {
-    let k = fields::figure_at(book, at, b'K', figures::HELD);
+    let k = fields::figure_at(book, at, tag::K, figures::HELD);
     let FigureAt::Value {
         number: long,
         next: at_h,
@@ -61,7 +63,7 @@ fn read_position(book: &[u8], terms: Terms, at: usize) -> PositionAt
     else {
         return PositionAt::Refused(fields::refusal_in(k));
     };
-    let h = fields::figure_at(book, at_h, b'H', figures::HELD);
+    let h = fields::figure_at(book, at_h, tag::H, figures::HELD);
     let FigureAt::Value {
         number: short,
         next: at_q,
@@ -69,7 +71,7 @@ fn read_position(book: &[u8], terms: Terms, at: usize) -> PositionAt
     else {
         return PositionAt::Refused(fields::refusal_in(h));
     };
-    let q = fields::figure_at(book, at_q, b'Q', figures::HELD);
+    let q = fields::figure_at(book, at_q, tag::Q, figures::HELD);
     let FigureAt::Value {
         number: unfilled,
         next,
@@ -84,7 +86,7 @@ fn read_position(book: &[u8], terms: Terms, at: usize) -> PositionAt
     };
     if overdrawn_by(terms, position) {
         return PositionAt::Refused(Refusal {
-            number: 8,
+            number: refusal::OVERDRAWN,
             place: at_q,
         });
     }
@@ -135,7 +137,7 @@ fn closed_at(terms: Terms, position: Position, place: usize, total: i64) -> Grou
 // A customer's trades and what comes of them, where its position is read; its C is at `place`.
 fn group_of(book: &[u8], terms: Terms, place: usize, position: Position, first: usize) -> GroupAt
     requires { ⌜ Short (now book) ⌝ ∗ ⌜ Sound terms ⌝ ∗ ⌜ Held position ⌝ }
-    ensures { λ r. ⌜ ((code : List ℕ) → r ≡ groupAt terms (groupFrom terms (Trading (started position code)) place first (fieldsOf (drop first (now (book .entry)))))) ⌝ }
+    ensures { λ r. ⌜ ((code : List ℕ) → r ≡ groupAt terms (groupFrom terms (Open DueTrade (started position code)) place first (fieldsOf (drop first (now (book .entry)))))) ⌝ }
 {
     let long = gain::net_long(position);
     match trades::read_trades(book, terms.settlement, long, first) {
@@ -146,7 +148,10 @@ fn group_of(book: &[u8], terms: Terms, place: usize, position: Position, first: 
         } => {
             let net = gain::net_of(position);
             if opened < net.0 {
-                return GroupAt::Refused(Refusal { number: 9, place });
+                return GroupAt::Refused(Refusal {
+                    number: refusal::UNCOVERED,
+                    place,
+                });
             }
             let oldest = trades::oldest_gain(book, terms.settlement, long, first, opened - net.0);
             closed_at(terms, position, at, gain - oldest)
@@ -158,7 +163,7 @@ fn group_of(book: &[u8], terms: Terms, place: usize, position: Position, first: 
 // A customer's group from the field after its C on, which is at `place`.
 pub fn read_group(book: &[u8], terms: Terms, place: usize, at: usize) -> GroupAt
     requires { ⌜ Short (now book) ⌝ ∗ ⌜ Sound terms ⌝ }
-    ensures { λ r. ⌜ ((code : List ℕ) → r ≡ groupAt terms (groupFrom terms (Coded code) place at (fieldsOf (drop at (now (book .entry)))))) ⌝ }
+    ensures { λ r. ⌜ ((code : List ℕ) → r ≡ groupAt terms (groupFrom terms (afterC code) place at (fieldsOf (drop at (now (book .entry)))))) ⌝ }
 {
     match read_position(book, terms, at) {
         PositionAt::Read { position, next } => group_of(book, terms, place, position, next),

@@ -1,12 +1,10 @@
--- A relation between the members of two lists, one by one: the lists are as long as each other, it holds at each index, and so it holds
--- between what is picked from both by the same indices.
+-- A relation between the members of two lists, one by one: the lists are as long as each other, and it holds at each index.
 -- Assumes nothing.
 use Prim.Native.Nat.{ℕ, zero, suc, _<_}
 use mathlib.Core.Path.{_≡_, refl, ap}
 use mathlib.Core.List.{List, [], _∷_}
 use lib.ListN.{length, getD}
 use native.Mathlib.Omega.{arith}
-use Rattle.rules.specs.Rearranged.{picked, Below}
 
 abbrev pub All2 : {A B : Type 0} → (A → B → Type 0) → List A → List B → Type 0
 All2 R [] [] = Unit
@@ -28,7 +26,3 @@ module _ {A B : Type 0} (R : A → B → Type 0) where
     all2-at (x ∷ l) [] h i k = absurd h
     all2-at (x ∷ l) (y ∷ m) h zero k = h .0
     all2-at (x ∷ l) (y ∷ m) h (suc i) k = all2-at l m (h .1) i (omega arith)
-
-    pub all2-picked : (l : List A) (m : List B) → All2 R l m → (is : List ℕ) → Below (length m) is → All2 R (picked a l is) (picked b m is)
-    all2-picked l m h [] k = tt
-    all2-picked l m h (i ∷ is) k = (all2-at l m h i (k .0), all2-picked l m h is (k .1))

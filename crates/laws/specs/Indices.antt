@@ -1,9 +1,9 @@
--- Sums and lists over the indices below n: who is among them, and what a loop over them adds.
+-- Sums and lists over the indices below n: who is among them, and what a loop over them adds; and the member of a list at an index.
 -- Assumes nothing.
 use Prim.Native.Nat.{ℕ, zero, suc, _+_, _*_, _≤_, _<_}
 use mathlib.Core.Path.{_≡_, refl, _∙_}
 use mathlib.Core.Logic.{⊎-elim}
-use mathlib.Core.List.{[], _∷_, _++_, map, map-append, List·Memᴰ, List·Memᴰ·head, List·Memᴰ·not-nil, Memᴰ·append-left, Memᴰ·append-right, List·Memᴰ·append-cases, List·Memᴰ·eq-of-singleton}
+use mathlib.Core.List.{List, [], _∷_, _++_, map, map-append, List·Memᴰ, List·Memᴰ·head, List·Memᴰ·tail, List·Memᴰ·not-nil, Memᴰ·append-left, Memᴰ·append-right, List·Memᴰ·append-cases, List·Memᴰ·eq-of-singleton}
 use native.Mathlib.Nat.{eq-or-lt-of-le, le-of-suc-le-suc}
 use native.Mathlib.Numerals.{add-one}
 use native.Mathlib.Omega.{arith}
@@ -56,3 +56,15 @@ sum-below-lt f g n h i l = sum-lt f g (upTo n) (λ j m. h j (upTo-below n m)) i 
 pub sum-bound : (f : ℕ → ℕ) (b n : ℕ) → ((i : ℕ) → i < n → f i ≤ b) → sumOf f (upTo n) ≤ b * n
 sum-bound f b zero h = omega arith
 sum-bound f b (suc n) h = omega (arith, sum-upTo f n, sum-bound f b n (λ i l. h i (omega arith)), h n (omega arith))
+
+-- the member at an index
+pub getD-mem : {A : Type 0} (l : List A) (i : ℕ) (d : A) → i < length l → List·Memᴰ (getD l i d) l
+getD-mem [] i d h = absurd (omega arith)
+getD-mem (a ∷ l) zero d h = List·Memᴰ·head refl
+getD-mem (a ∷ l) (suc i) d h = List·Memᴰ·tail (getD-mem l i d (le-of-suc-le-suc h))
+
+-- a member of a mapped list, whatever stands for those past its end
+pub getD-in : {A B : Type 0} (f : A → B) (l : List A) (i : ℕ) (d : A) (e : B) → i < length l → getD (map f l) i e ≡ f (getD l i d)
+getD-in f [] i d e h = absurd (omega arith)
+getD-in f (a ∷ l) zero d e h = refl
+getD-in f (a ∷ l) (suc i) d e h = getD-in f l i d e (le-of-suc-le-suc h)

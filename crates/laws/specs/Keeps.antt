@@ -13,6 +13,7 @@ use Rattle.rules.specs.declared.Opening.{Opening}
 use Rattle.rules.specs.declared.Opening.the-variants.{Made}
 use Rattle.rules.specs.declared.Opening.the-variants.{Comma as CommaIn}
 use Rattle.rules.specs.declared.Opening.the-variants.{Malformed as NoTrade}
+use Rattle.rules.specs.Refusal as refusal
 use Rattle.rules.specs.Text.{bytes}
 use Rattle.rules.specs.Codes.{same}
 use Rattle.rules.specs.Figures.{figureOf}
@@ -24,7 +25,7 @@ module _ {A : Type 0} (Q : ℕ → Type 0) (P : A → Type 0) where
   Keeps (Stop n) = Q n
   Keeps (Next a) = P a
 
-  pub must-keeps : Q 3 → (b : Bool) (r : Step A) → Keeps r → Keeps (must b r)
+  pub must-keeps : Q refusal.misplaced → (b : Bool) (r : Step A) → Keeps r → Keeps (must b r)
   must-keeps q true r h = h
   must-keeps q false r h = q
 
@@ -34,7 +35,7 @@ module _ {A : Type 0} (Q : ℕ → Type 0) (P : A → Type 0) where
   refuse-keeps n false r q h = h refl
 
   -- a figure is at most its form's most
-  pub figure-keeps : (form : Form) (v : List ℕ) (next : ℕ → Step A) → Q 4 → Q 5 → ((n : ℕ) → n ≤ form .most → Keeps (next n)) → Keeps (figure (figureOf form v) next)
+  pub figure-keeps : (form : Form) (v : List ℕ) (next : ℕ → Step A) → Q refusal.comma → Q refusal.malformed → ((n : ℕ) → n ≤ form .most → Keeps (next n)) → Keeps (figure (figureOf form v) next)
   figure-keeps form v next q₄ q₅ h = go (figureOf form v) refl
     where
       go : (f : Figure) → figureOf form v ≡ f → Keeps (figure f next)
@@ -42,15 +43,20 @@ module _ {A : Type 0} (Q : ℕ → Type 0) (P : A → Type 0) where
       go Comma e = q₄
       go Malformed e = q₅
 
-  pub trade-keeps : (o : Opening) (next : Trade → Step A) → Q 4 → Q 5 → ((t : Trade) → Keeps (next t)) → Keeps (trade o next)
+  pub trade-keeps : (o : Opening) (next : Trade → Step A) → Q refusal.comma → Q refusal.malformed → ((t : Trade) → Keeps (next t)) → Keeps (trade o next)
   trade-keeps (Made t) next q₄ q₅ h = h t
   trade-keeps CommaIn next q₄ q₅ h = q₄
   trade-keeps NoTrade next q₄ q₅ h = q₅
 
-  pub lock-keeps : (v : List ℕ) (next : Bool → Step A) → Q 5 → ((d : Bool) → Keeps (next d)) → Keeps (lock v next)
+  pub lock-keeps : (v : List ℕ) (next : Bool → Step A) → Q refusal.malformed → ((d : Bool) → Keeps (next d)) → Keeps (lock v next)
   lock-keeps v next q h = go (same v (bytes "D")) (same v (bytes "U"))
     where
-      go : (a b : Bool) → Keeps (cond a (next true) (cond b (next false) (Stop 5)))
+      go : (a b : Bool) → Keeps (cond a (next true) (cond b (next false) (Stop refusal.malformed)))
       go true b = h true
       go false true = h false
       go false false = q
+
+-- and what follows from what holds
+pub keeps-also : {A : Type 0} {Q R : ℕ → Type 0} {P S : A → Type 0} → ((n : ℕ) → Q n → R n) → ((a : A) → P a → S a) → (r : Step A) → Keeps Q P r → Keeps R S r
+keeps-also f g (Stop n) h = f n h
+keeps-also f g (Next a) h = g a h

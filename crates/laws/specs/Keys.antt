@@ -10,6 +10,7 @@ use native.Mathlib.Omega.{arith}
 use lib.ListN.{length}
 use lib.Dec.{T, leb, ltb, eqb, lit<}
 use borrow.Author.Tests.{le-leb, lt-leb, leb-true, leb-false, ltb-true, ltb-false, lt-ltb, le-ltb, eq-eqb, ne-eqb, eqb-true, eqb-false}
+use Rattle.rules.specs.Limits.{longestCode}
 use Rattle.rules.specs.Text.{bytes}
 use Rattle.rules.specs.Figures.{isDigit}
 use Rattle.rules.specs.Codes.{isLetter, allOfCode, isCode, same, smaller}
@@ -25,7 +26,7 @@ keyAt zero (x ∷ xs) = 0
 keyAt (suc n) (x ∷ xs) = digitOf x * 37 ^ n + keyAt n xs
 
 unfoldable pub keyOf : List ℕ → ℕ
-keyOf v = keyAt 12 v
+keyOf v = keyAt longestCode v
 
 -- the kinds of byte
 data Kind (x : ℕ) : Type 0 where
@@ -140,18 +141,18 @@ compare (suc n) (x ∷ xs) (y ∷ ys) (h, hs) (h′, hs′) = go (ltb x y) (eqb 
     go false false e f ih = more (rw (e, f)) (rw f) (outweighs n (keyAt n xs) (digit-mono y x h′ h (omega (arith, ltb-false, eqb-false x y f))) (key-lt n ys hs′))
 
 -- what a code is, as one fact
-code-coded : (v : List ℕ) → isCode v ≡ true → Coded 12 v
+code-coded : (v : List ℕ) → isCode v ≡ true → Coded longestCode v
 unfolding isCode
-code-coded v e = go (leb 1 (length v)) (leb (length v) 12) refl e
+code-coded v e = go (leb 1 (length v)) (leb (length v) longestCode) refl e
   where
-    go : (p q : Bool) → leb (length v) 12 ≡ q → (p && q && allOfCode v) ≡ true → Coded 12 v
-    go true true f e = coded 12 v (leb-true _ _ f) e
+    go : (p q : Bool) → leb (length v) longestCode ≡ q → (p && q && allOfCode v) ≡ true → Coded longestCode v
+    go true true f e = coded longestCode v (leb-true _ _ f) e
     go true false f e = let z : _≡_ {A = ℕ} 0 1 = cc in absurd (omega arith)
     go false q f e = let z : _≡_ {A = ℕ} 0 1 = cc in absurd (omega arith)
 
 compared : (a b : List ℕ) → isCode a ≡ true → isCode b ≡ true → Compared a b (keyOf a) (keyOf b)
 unfolding keyOf
-compared a b e f = compare 12 a b (code-coded a e) (code-coded b f)
+compared a b e f = compare longestCode a b (code-coded a e) (code-coded b f)
 
 pub key-same : (a b : List ℕ) → isCode a ≡ true → isCode b ≡ true → same a b ≡ eqb (keyOf a) (keyOf b)
 key-same a b e f = go (compared a b e f)
@@ -170,9 +171,9 @@ key-smaller a b e f = go (compared a b e f)
     go (more s t i) = s ∙ sym (le-ltb (keyOf a) (keyOf b) (omega arith))
 
 -- 37 ^ 12 is below 2 ^ 63
-pub key-bound : (v : List ℕ) → isCode v ≡ true → keyOf v < 37 ^ 12
+pub key-bound : (v : List ℕ) → isCode v ≡ true → keyOf v < 37 ^ longestCode
 unfolding keyOf
-key-bound v e = key-lt 12 v (code-coded v e)
+key-bound v e = key-lt longestCode v (code-coded v e)
 
 pub key-pos : (v : List ℕ) → isCode v ≡ true → 0 < keyOf v
 unfolding keyOf isCode

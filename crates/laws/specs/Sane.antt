@@ -5,40 +5,33 @@ use Prim.Native.Nat.{ℕ, _+_, _≤_, _<_}
 use mathlib.Core.Path.{_≡_, refl, sym, ap, subst, _∙_}
 use mathlib.Core.Logic.{⊎-elim}
 use mathlib.Core.List.{List, [], _∷_, _++_, List·Memᴰ·not-nil, List·Memᴰ·append-cases, List·Memᴰ·eq-of-singleton}
-use mathlib.Core.Bool.{Bool, true, false, cond, not, _||_}
+use mathlib.Core.Bool.{Bool, true, false, cond, not}
 use native.Mathlib.Omega.{arith}
 use lib.ListN.{length, length-append}
-use lib.Dec.{leb, ltb, eqb}
+use lib.Dec.{leb, ltb}
 use borrow.Author.Tests.{leb-false}
 use Rattle.rules.specs.declared.Terms.{Terms}
-use Rattle.rules.specs.declared.Position.{Position}
 use Rattle.rules.specs.Text.{is}
 use Rattle.rules.specs.Codes.{isCode, same}
-use Rattle.rules.specs.Figures.{openingOf, priceForm, rateForm, heldForm, fen, lots, rate}
+use Rattle.rules.specs.Refusal as refusal
+use Rattle.rules.specs.Limits.{longestBook, mostCustomers}
 use Rattle.rules.specs.Fields.{Field, Whole, Cut, fieldsOf}
 use Rattle.rules.specs.Book.{
   Customer,
   uncovered,
-  overdrawn,
   given,
   Step,
   Stop,
   Next,
-  holding,
   Group,
   Nobody,
-  Coded,
-  Long,
-  Short,
-  Trading,
+  Open,
   within,
+  mayEnd,
   Due,
-  DueD,
-  DueS,
-  DueL,
-  DueU,
-  DueV,
+  AtTerm,
   InGroup,
+  atFront,
   Stage,
   Reading,
   Ended,
@@ -55,8 +48,9 @@ use Rattle.rules.specs.Book.{
   judge,
 }
 use Rattle.laws.specs.ShareSum.{Distinct}
-use Rattle.laws.specs.Picks.{not-either}
-use Rattle.laws.specs.Keeps.{Keeps, must-keeps, refuse-keeps, figure-keeps, trade-keeps, lock-keeps}
+use Rattle.laws.specs.ByTest.{not-either}
+use Rattle.laws.specs.Keeps.{Keeps, must-keeps, refuse-keeps, keeps-also}
+use Rattle.laws.specs.OneField.{EarlyStage, term-leads, FurtherGroup, part-leads}
 
 pub record Sane (c : Customer) : Type 0 where
   pub code : isCode (c .code) ≡ true
@@ -87,69 +81,52 @@ distinct-more (b ∷ cs) c (d, ds) h =
       distinct-more cs c ds q,
     )
 
--- a group that may become a sane customer, the next of fewer than 256, with a code of its own
-abbrev SaneGroup : Group → Type 0
-SaneGroup Nobody = Unit
-SaneGroup (Coded v) = isCode v ≡ true
-SaneGroup (Long v k) = (isCode v ≡ true) × (k .0 ≤ 1_000_000)
-SaneGroup (Short v k h) = (isCode v ≡ true) × (k .0 ≤ 1_000_000) × (h .0 ≤ 1_000_000)
-SaneGroup (Trading c) = Sane c
+-- a customer that is being read, the next of fewer than 256, with a code of its own
+record Member (cs : List Customer) (c : Customer) : Type 0 where
+  sane : Sane c
+  room : length cs < mostCustomers
+  new : given (c .code) cs ≡ false
 
-abbrev Room : List Customer → Group → Type 0
-Room cs Nobody = length cs ≤ 256
-Room cs (Coded v) = (length cs < 256) × (given v cs ≡ false)
-Room cs (Long v k) = (length cs < 256) × (given v cs ≡ false)
-Room cs (Short v k h) = (length cs < 256) × (given v cs ≡ false)
-Room cs (Trading c) = (length cs < 256) × (given (c .code) cs ≡ false)
+abbrev MemberIn : List Customer → Group → Type 0
+MemberIn cs Nobody = length cs ≤ mostCustomers
+MemberIn cs (Open part c) = Member cs c
 
 -- and no refusal has the number of an acceptance
 abbrev Above : ℕ → Type 0
 Above n = 0 < n
 
--- a step within a group leads to a group of the same customers
-pub record Member (cs : List Customer) (g : Group) : Type 0 where
-  pub sane : SaneGroup g
-  pub room : Room cs g
-
-within-sane : (terms : Terms) (cs : List Customer) (g : Group) (t : ℕ) (v : List ℕ) → Member cs g → Keeps Above (Member cs) (within terms g t v)
+-- a step within a group leads to a group of the same customer
+within-sane : (terms : Terms) (cs : List Customer) (g : Group) (t : ℕ) (v : List ℕ) → MemberIn cs g → Keeps Above (MemberIn cs) (within terms g t v)
 unfolding within
 within-sane terms cs Nobody t v m = omega arith
-within-sane terms cs (Coded u) t v m =
-    must-keeps Above (Member cs) (omega arith) (is "K" t) _ (figure-keeps Above (Member cs) heldForm v _ (omega arith) (omega arith) (λ k hk. record { sane = (m .sane, hk); room = m .room }))
-within-sane terms cs (Long u k) t v m =
-    must-keeps Above (Member cs) (omega arith) (is "H" t) _ (figure-keeps Above (Member cs) heldForm v _ (omega arith) (omega arith) (λ h hh. record { sane = (m .sane .0, m .sane .1, hh); room = m .room }))
-within-sane terms cs (Short u k h) t v m =
-    must-keeps Above (Member cs) (omega arith) (is "Q" t) _ (figure-keeps Above (Member cs) heldForm v _ (omega arith) (omega arith) (λ q hq.
-    refuse-keeps Above (Member cs) 8 (overdrawn terms (record { long = k; short = h; unfilled = lots q })) _ (omega arith) (λ e.
-    record { sane = record { code = m .sane .0; long = m .sane .1; short = m .sane .2 }; room = m .room })))
-within-sane terms cs (Trading c) t v m =
-    must-keeps Above (Member cs) (omega arith) (is "B" t || is "A" t) _ (trade-keeps Above (Member cs) (openingOf (is "B" t) v) _ (omega arith) (omega arith) (λ x.
-    record { sane = record { code = m .sane .code; long = m .sane .long; short = m .sane .short }; room = m .room }))
+within-sane terms cs (Open part c) t v m = keeps-also {P = FurtherGroup c} {S = MemberIn cs} (λ n h. h .above) go (within terms (Open part c) t v) (part-leads terms part c t v)
+  where
+    go : (g : Group) → FurtherGroup c g → MemberIn cs g
+    go Nobody h = absurd h
+    go (Open p d) h =
+        record {
+          sane = record { code = ap isCode (h .code) ∙ m .sane .code; long = h .long (m .sane .long); short = h .short (m .sane .short) };
+          room = m .room;
+          new = ap (λ (u : List ℕ). given u cs) (h .code) ∙ m .new;
+        }
 
 pub record Customers (cs : List Customer) : Type 0 where
   pub all : AllSane cs
   pub distinct : Distinct codeIn cs
-  pub few : length cs ≤ 256
+  pub few : length cs ≤ mostCustomers
 
 abbrev SaneStage : Stage → Type 0
-SaneStage (Reading DueD) = Unit
-SaneStage (Reading (DueS d)) = Unit
-SaneStage (Reading (DueL d s)) = Unit
-SaneStage (Reading (DueU d s l)) = Unit
-SaneStage (Reading (DueV d s l u)) = Unit
-SaneStage (Reading (InGroup terms cs g)) = Sound cs × Member cs g
+SaneStage (Reading (AtTerm term ts)) = Unit
+SaneStage (Reading (InGroup terms cs g)) = Sound cs × MemberIn cs g
 SaneStage (Ended terms cs) = Customers cs
 
 -- at C or Z
-closed-sane : (cs : List Customer) (g : Group) (next : List Customer → Step Stage) → Sound cs → Member cs g → ((ds : List Customer) → Customers ds → Keeps Above SaneStage (next ds)) →
+closed-sane : (cs : List Customer) (g : Group) (next : List Customer → Step Stage) → Sound cs → MemberIn cs g → ((ds : List Customer) → Customers ds → Keeps Above SaneStage (next ds)) →
     Keeps Above SaneStage (closed cs g next)
-closed-sane cs Nobody next a m h = h cs (record { all = a .0; distinct = a .1; few = m .room })
-closed-sane cs (Coded v) next a m h = omega arith
-closed-sane cs (Long v k) next a m h = omega arith
-closed-sane cs (Short v k l) next a m h = omega arith
-closed-sane cs (Trading c) next a m h =
-    refuse-keeps Above SaneStage 9 (uncovered c) _ (omega arith) (λ e.
-    h (cs ++ c ∷ []) (record { all = sane-more cs c (a .0) (m .sane); distinct = distinct-more cs c (a .1) (m .room .1); few = simp length-append (omega (arith, m .room .0)) }))
+closed-sane cs Nobody next a m h = h cs (record { all = a .0; distinct = a .1; few = m })
+closed-sane cs (Open part c) next a m h =
+    must-keeps Above SaneStage (omega arith) (mayEnd part) _ (refuse-keeps Above SaneStage refusal.uncovered (uncovered c) _ (omega arith) (λ e.
+    h (cs ++ c ∷ []) (record { all = sane-more cs c (a .0) (m .sane); distinct = distinct-more cs c (a .1) (m .new); few = simp length-append (omega (arith, m .room)) })))
 
 not-not : (b : Bool) → not b ≡ false → b ≡ true
 not-not true h = refl
@@ -157,27 +134,28 @@ not-not false h = sym h
 
 opens-sane : (terms : Terms) (v : List ℕ) (cs : List Customer) → Customers cs → Keeps Above SaneStage (opens terms v cs)
 opens-sane terms v cs k =
-    refuse-keeps Above SaneStage 10 (leb 256 (length cs)) _ (omega arith) (λ few.
-    refuse-keeps Above SaneStage 5 (not (isCode v)) _ (omega arith) (λ good.
-    refuse-keeps Above SaneStage 7 (given v cs) _ (omega arith) (λ new.
-    ((k .all, k .distinct), record { sane = not-not (isCode v) good; room = (omega (arith, leb-false), new) }))))
+    refuse-keeps Above SaneStage refusal.tooMany (leb mostCustomers (length cs)) _ (omega arith) (λ few.
+    refuse-keeps Above SaneStage refusal.malformed (not (isCode v)) _ (omega arith) (λ good.
+    refuse-keeps Above SaneStage refusal.givenBefore (given v cs) _ (omega arith) (λ new.
+    ((k .all, k .distinct), record { sane = record { code = not-not (isCode v) good; long = omega arith; short = omega arith }; room = omega (arith, leb-false); new = new }))))
 
 ends-sane : (terms : Terms) (v : List ℕ) (cs : List Customer) → Customers cs → Keeps Above SaneStage (ends terms v cs)
-ends-sane terms v cs k = refuse-keeps Above SaneStage 5 (ltb 0 (length v)) _ (omega arith) (λ e. k)
+ends-sane terms v cs k = refuse-keeps Above SaneStage refusal.malformed (ltb 0 (length v)) _ (omega arith) (λ e. k)
 
-goes-sane : (terms : Terms) (cs : List Customer) → Sound cs → (r : Step Group) → Keeps Above (Member cs) r → Keeps Above SaneStage (goesOn terms cs r)
+goes-sane : (terms : Terms) (cs : List Customer) → Sound cs → (r : Step Group) → Keeps Above (MemberIn cs) r → Keeps Above SaneStage (goesOn terms cs r)
 goes-sane terms cs a (Stop n) h = h
 goes-sane terms cs a (Next g) h = (a, h)
 
+early-sane : (st : Stage) → EarlyStage st → SaneStage st
+early-sane (Reading (AtTerm term ts)) h = tt
+early-sane (Reading (InGroup terms cs g)) h =
+    let nobody : Sound [] × MemberIn [] Nobody = ((tt, tt), omega arith) in
+    subst (λ (l : List Customer). Sound l × MemberIn l g) (sym (h .0)) (subst (λ (o : Group). Sound [] × MemberIn [] o) (sym (h .1)) nobody)
+early-sane (Ended terms cs) h = absurd h
+
 step-sane : (d : Due) (t : ℕ) (v : List ℕ) → SaneStage (Reading d) → Keeps Above SaneStage (step d t v)
 unfolding step
-step-sane DueD t v h = must-keeps Above SaneStage (omega arith) (is "D" t) _ (lock-keeps Above SaneStage v (λ d. Next (Reading (DueS d))) (omega arith) (λ d. tt))
-step-sane (DueS d) t v h = must-keeps Above SaneStage (omega arith) (is "S" t) _ (figure-keeps Above SaneStage priceForm v _ (omega arith) (omega arith) (λ n k. tt))
-step-sane (DueL d s) t v h = must-keeps Above SaneStage (omega arith) (is "L" t) _ (figure-keeps Above SaneStage rateForm v _ (omega arith) (omega arith) (λ n k. tt))
-step-sane (DueU d s l) t v h = must-keeps Above SaneStage (omega arith) (is "U" t) _ (figure-keeps Above SaneStage rateForm v _ (omega arith) (omega arith) (λ n k. tt))
-step-sane (DueV d s l u) t v h =
-    must-keeps Above SaneStage (omega arith) (is "V" t) _ (figure-keeps Above SaneStage rateForm v _ (omega arith) (omega arith) (λ x k.
-    refuse-keeps Above SaneStage 6 (leb (u .0) x) _ (omega arith) (λ e. ((tt, tt), record { sane = tt; room = omega arith }))))
+step-sane (AtTerm term ts) t v h = keeps-also {P = EarlyStage} {S = SaneStage} (λ n k. k .above) early-sane (step (AtTerm term ts) t v) (term-leads term ts t v)
 step-sane (InGroup terms cs g) t v h = go (is "C" t) (is "Z" t)
   where
     go : (p q : Bool) → Keeps Above SaneStage (cond p (closed cs g (opens terms v)) (cond q (closed cs g (ends terms v)) (goesOn terms cs (within terms g t v))))
@@ -203,11 +181,11 @@ walk-sane (Reading d) lastC at (Whole t v ∷ fs) h =
 
 judge-sane : (s : List ℕ) → SaneVerdict (judge s)
 unfolding judge
-judge-sane s = go (ltb 60_000 (length s))
+judge-sane s = go (ltb longestBook (length s))
   where
-    go : (b : Bool) → SaneVerdict (cond b (Refused 1 0) (walk (Reading DueD) 0 0 (fieldsOf s)))
+    go : (b : Bool) → SaneVerdict (cond b (Refused refusal.tooLong 0) (walk (Reading atFront) 0 0 (fieldsOf s)))
     go true = omega arith
-    go false = walk-sane (Reading DueD) 0 0 (fieldsOf s) tt
+    go false = walk-sane (Reading atFront) 0 0 (fieldsOf s) tt
 
 pub accepted-sane : (s : List ℕ) (terms : Terms) (cs : List Customer) → judge s ≡ Accepted terms cs → Customers cs
 accepted-sane s terms cs e = subst SaneVerdict e (judge-sane s)

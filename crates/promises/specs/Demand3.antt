@@ -8,21 +8,19 @@ use mathlib.Core.List.{List, [], _∷_, _++_, map}
 use lib.ListN.{length, getD, drop, length-append, length-map}
 use native.Mathlib.Omega.{arith}
 use Rattle.rules.specs.Fields.{Field, Whole, fieldsOf}
-use Rattle.rules.specs.Division.{sumOf}
-use Rattle.rules.specs.Book.{Customer, Accepted, judge}
-use Rattle.rules.specs.Cascade.{Outcome, lineOf, cascade, outcome}
+use Rattle.rules.specs.Book.{Customer}
+use Rattle.rules.specs.Cascade.{Outcome, lineOf, outcome}
 use Rattle.rules.specs.Report.{digits, field, joined, reported, report}
 use Rattle.rules.specs.Answer.{answer}
-use Rattle.rules.specs.Rearranged.{partsOf, together, picked, rearranged, Below, nobody, Chosen}
-use Rattle.laws.specs.Picks.{sum-chosen-le}
-use Rattle.laws.specs.Within.{Within, as-many}
-use Rattle.laws.specs.Lines.{book-within}
-use Rattle.laws.specs.Chosen.{pickedOf, chosen-after, outcome-chosen}
-use Rattle.laws.specs.Framed.{parts-together}
-use Rattle.laws.specs.Accepted.{groups-of-customers, group-begins}
-use Rattle.laws.specs.Rearrange.{length-joined, rearranged-accepted}
-use Rattle.allotment.specs.declared.Answer.{Answer}
-use Rattle.allotment.specs.Answered.{Answered}
+use Rattle.consequences.specs.Rearranged.{partsOf, together, picked, rearranged, Below, nobody, Chosen}
+use Rattle.consequences.specs.Picks.{sum-chosen-le}
+use Rattle.consequences.specs.Within.{as-many}
+use Rattle.consequences.specs.Lines.{book-within}
+use Rattle.consequences.specs.Chosen.{pickedOf, chosen-after, outcome-chosen}
+use Rattle.consequences.specs.Framed.{parts-together}
+use Rattle.consequences.specs.Accepted.{groups-of-customers, group-begins}
+use Rattle.consequences.specs.Rearrange.{length-joined, rearranged-accepted}
+use Rattle.promises.specs.Call.{Call, bookOf, lentTo, leftBy}
 use Rattle.promises.specs.Outcomes.{noCustomer, outcomeOf, Fits, accepted-fits, fits-accepted, fits-report}
 
 -- Book t is accepted with the same room as book s, and says of its customers what s says of those at the indices `is`
@@ -123,17 +121,22 @@ accepted-parted s room h =
         let g = group-begins s (f .terms) (f .customers) (f .judged) i noCustomer l in
         (g .0, rw (outcome-is s room f, w .code) (g .1))
 
--- The same of two calls with the same buffer: r and exit for the book, r′ and exit′ for the book rearranged
+-- The same of two calls with the same buffer, the second of the book rearranged
+pub record Rearranged (c d : Call) (is : List ℕ) : Type 0 where
+  pub book : bookOf d ≡ rearranged (bookOf c) is
+  pub buffer : lentTo d ≡ lentTo c
+
+abbrev pub stillIn : Call → List ℕ → List ℕ
+stillIn c is = report (pickedOf (outcomeOf (bookOf c)) is)
+
 pub demand-3-call :
-    (s entry is : List ℕ) (r r′ : Answer) (exit exit′ : List ℕ) → Answered (answer s (length entry)) r entry exit → r .number ≡ 0 → Chosen (outcomeOf s .lines) is →
-    Answered (answer (rearranged s is) (length entry)) r′ entry exit′ →
-    (r′ .number ≡ 0) × (exit′ ≡ report (pickedOf (outcomeOf s) is) ++ drop (length (report (pickedOf (outcomeOf s) is))) entry)
-demand-3-call s entry is r r′ exit exit′ a h c b =
-    let k = demand-3 s (length entry) (sym (a .number) ∙ h) is c in
-    let same : outcomeOf (rearranged s is) ≡ pickedOf (outcomeOf s) is = outcomes _ _ (k .total) (k .residue) (k .lines) in
-    (b .number ∙ k .accepted, b .buffer ∙ rw (k .report, same) refl)
+    (c d : Call) (is : List ℕ) → Chosen (outcomeOf (bookOf c) .lines) is → Rearranged c d is → c .answer .number ≡ 0 →
+    (d .answer .number ≡ 0) × (leftBy d ≡ stillIn c is ++ drop (length (stillIn c is)) (lentTo d))
+demand-3-call c d is chosen same h =
+    let k = demand-3 (bookOf c) (length (lentTo c)) (sym (c .contract .number) ∙ h) is chosen in
+    let picked : outcomeOf (rearranged (bookOf c) is) ≡ pickedOf (outcomeOf (bookOf c)) is = outcomes _ _ (k .total) (k .residue) (k .lines) in
+    let asked : answer (bookOf d) (length (lentTo d)) ≡ answer (rearranged (bookOf c) is) (length (lentTo c)) = ap₂ (λ s b. answer s (length b)) (same .book) (same .buffer) in
+    (d .contract .number ∙ rw asked (k .accepted), d .contract .buffer ∙ rw (asked, k .report, picked) refl)
   where
     outcomes : (o p : Outcome) → o .total ≡ p .total → o .residue ≡ p .residue → o .lines ≡ p .lines → o ≡ p
-    outcomes o p t r l =
-        ap (λ total. record { total = total; residue = o .residue; lines = o .lines }) t
-        ∙ ap₂ (λ residue lines. record { total = p .total; residue = residue; lines = lines }) r l
+    outcomes o p t r l = λ i. record { total = t i; residue = r i; lines = l i }

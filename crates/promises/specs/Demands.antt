@@ -1,13 +1,12 @@
--- Demands 1 and 2, for what a call returns (r) and leaves in the buffer (exit), whatever the book and whatever stood in the buffer (entry). The
--- hypothesis is `allot`'s contract, which `frundavel_allot` has too; they are proved of the code in `allotment`, with no `requires`.
+-- Demands 1 and 2 of a call, for what it returns and leaves in the buffer, whatever the book and whatever stood in the buffer: they follow from its
+-- contract in the source, which has no `requires` (`Asked`).
 -- Assumes nothing.
 use Prim.Native.Nat.{ℕ, _<_}
 use mathlib.Core.Path.{_≡_, refl, sym, _∙_}
-use mathlib.Core.Bool.{Bool, true, false}
-use mathlib.Core.List.{List, [], _++_}
+use mathlib.Core.List.{List, _++_}
 use lib.ListN.{length, drop}
 use lib.Dec.{ltb}
-use borrow.Author.Tests.{ltb-true, le-ltb}
+use borrow.Author.Tests.{le-ltb}
 use native.Mathlib.Omega.{arith}
 use Rattle.rules.specs.declared.Terms.{Terms}
 use Rattle.rules.specs.Book.{Customer, Verdict, Refused, Accepted, judge}
@@ -16,14 +15,10 @@ use Rattle.rules.specs.Report.{report}
 use Rattle.rules.specs.Answer.{answer}
 use Rattle.allotment.specs.declared.Answer.{Answer}
 use Rattle.allotment.specs.Answered.{Answered}
-use Rattle.promises.specs.Outcomes.{outcomeOf, Fits, accepted-fits}
-use Rattle.promises.specs.Reasons.{Reason}
-use Rattle.promises.specs.Refused.{refused-reason}
-
--- "A book is refused only for a reason in the table": one of 1 to 10, or 11, "the report is longer than the lent buffer", with "the length needed"
-pub data Why (s : List ℕ) (room : ℕ) : ℕ → ℕ → Type 0 where
-  by-the-book : {n place : ℕ} → judge s ≡ Refused n place → Reason s n place → Why s room n place
-  no-room : {terms : Terms} {cs : List Customer} → judge s ≡ Accepted terms cs → room < length (report (outcomeOf s)) → Why s room 11 (length (report (outcomeOf s)))
+use Rattle.promises.specs.Call.{Call, bookOf, lentTo, leftBy}
+use Rattle.laws.specs.ByTest.{by-test}
+use Rattle.promises.specs.Outcomes.{Fits, accepted-fits}
+use Rattle.promises.specs.Numbers.{Why, number-exactly}
 
 -- Demand 1: "A book that breaks the rules gets the number and place that the rules give it, and the report buffer is untouched."
 pub record Untouched (s entry : List ℕ) (r : Answer) (exit : List ℕ) : Type 0 where
@@ -41,39 +36,21 @@ pub record Reported (s entry : List ℕ) (r : Answer) (exit : List ℕ) : Type 0
   pub size : r .length ≡ length (report (outcome terms customers))
   pub buffer : exit ≡ report (outcome terms customers) ++ drop (length (report (outcome terms customers))) entry
 
+-- from what the contract says
 module _ (s entry : List ℕ) (r : Answer) (exit : List ℕ) (a : Answered (answer s (length entry)) r entry exit) where
-  refused-so : (n place : ℕ) → judge s ≡ Refused n place → Untouched s entry r exit
+  -- a refusal leaves the buffer as it was, whatever its number
+  kept : (v : Verdict) → judge s ≡ v → 0 < r .number → (r .length ≡ 0) × (exit ≡ entry)
   unfolding answer
-  refused-so n place e =
-      let number : r .number ≡ n = a .number ∙ rw e refl in
-      let at : r .place ≡ place = a .place ∙ rw e refl in
-      let judged : judge s ≡ Refused (r .number) (r .place) = rw (number, at) e in
-      record { why = by-the-book judged (refused-reason s (r .number) (r .place) judged); none = a .length ∙ rw e refl; buffer = a .buffer ∙ rw e refl }
+  kept (Refused n place) e h = (a .length ∙ rw e refl, a .buffer ∙ rw e refl)
+  kept (Accepted terms cs) e h =
+      by-test (ltb (length entry) (length (report (outcome terms cs))))
+      (λ long. (a .length ∙ rw (e, long) refl, a .buffer ∙ rw (e, long) refl))
+      (λ short. let z : r .number ≡ 0 = a .number ∙ rw (e, short) refl in absurd (omega arith))
 
-  -- 11
-  too-long-so : (terms : Terms) (cs : List Customer) → judge s ≡ Accepted terms cs → ltb (length entry) (length (report (outcome terms cs))) ≡ true → Untouched s entry r exit
-  unfolding answer outcomeOf
-  too-long-so terms cs e long =
-      let number : r .number ≡ 11 = a .number ∙ rw (e, long) refl in
-      let at : r .place ≡ length (report (outcome terms cs)) = a .place ∙ rw (e, long) refl in
-      let is : outcomeOf s ≡ outcome terms cs = rw e refl in
-      record {
-        why = rw (number, at, sym is) (no-room e (rw is (ltb-true _ _ long)));
-        none = a .length ∙ rw (e, long) refl;
-        buffer = a .buffer ∙ rw (e, long) refl;
-      }
-
-  pub demand-1 : 0 < r .number → Untouched s entry r exit
-  unfolding answer
-  demand-1 h = go (judge s) refl
-    where
-      go : (v : Verdict) → judge s ≡ v → Untouched s entry r exit
-      go (Refused n place) e = refused-so n place e
-      go (Accepted terms cs) e = fits (ltb (length entry) (length (report (outcome terms cs)))) refl
-        where
-          fits : (b : Bool) → ltb (length entry) (length (report (outcome terms cs))) ≡ b → Untouched s entry r exit
-          fits true long = too-long-so terms cs e long
-          fits false short = let z : r .number ≡ 0 = a .number ∙ rw (e, short) refl in absurd (omega arith)
+  untouched : 0 < r .number → Untouched s entry r exit
+  untouched h =
+      let k = kept (judge s) refl h in
+      record { why = number-exactly s (length entry) (r .number) (r .place) h .0 (sym (a .number), sym (a .place)); none = k .0; buffer = k .1 }
 
   reported-so : Fits s (length entry) → Reported s entry r exit
   unfolding answer
@@ -88,5 +65,11 @@ module _ (s entry : List ℕ) (r : Answer) (exit : List ℕ) (a : Answered (answ
         buffer = a .buffer ∙ rw (f .judged, short) refl;
       }
 
-  pub demand-2 : r .number ≡ 0 → Reported s entry r exit
-  demand-2 h = reported-so (accepted-fits s (length entry) (sym (a .number) ∙ h))
+  reported : r .number ≡ 0 → Reported s entry r exit
+  reported h = reported-so (accepted-fits s (length entry) (sym (a .number) ∙ h))
+
+pub demand-1 : (c : Call) → 0 < c .answer .number → Untouched (bookOf c) (lentTo c) (c .answer) (leftBy c)
+demand-1 c = untouched (bookOf c) (lentTo c) (c .answer) (leftBy c) (c .contract)
+
+pub demand-2 : (c : Call) → c .answer .number ≡ 0 → Reported (bookOf c) (lentTo c) (c .answer) (leftBy c)
+demand-2 c = reported (bookOf c) (lentTo c) (c .answer) (leftBy c) (c .contract)

@@ -1,23 +1,22 @@
 -- The division is fair: what demands 2 and 3 rest on, stated for readers. "Dividing X over weights w with sum W (X is at most W): each gets the whole
 -- part of X x w / W. The lots left over go one each to the largest remainders of X x w by W; equal remainders go to the smaller code."
 -- Assumes nothing.
-use Prim.Native.Nat.{ℕ, zero, suc, _+_, _≤_, _<_}
+use Prim.Native.Nat.{ℕ, _+_, _≤_, _<_}
 use mathlib.Core.Path.{_≡_, refl, sym, ap, _∙_}
-use mathlib.Core.Bool.{Bool, true, false, _||_, cond}
+use mathlib.Core.Bool.{Bool, true, false}
 use mathlib.Core.List.{List}
 use lib.ListN.{length}
-use lib.Dec.{ltb, eqb}
+use lib.Dec.{ltb}
 use borrow.Author.Tests.{ltb-true, lt-ltb, le-ltb, eq-eqb, ne-eqb}
 use native.Mathlib.Omega.{arith}
 use Rattle.rules.specs.Codes.{smaller}
 use Rattle.rules.specs.Division.{sumOf, oneIf, wholePart, remainder, leftOver, goesBefore, rank, shareOf, share}
-use Rattle.rules.specs.Rearranged.{picked, among, Below, Once}
-use Rattle.laws.specs.Sums.{one-le}
-use Rattle.laws.specs.Picks.{sum-chosen}
+use Rattle.consequences.specs.Rearranged.{picked, among, Below, Once}
+use Rattle.consequences.specs.Picks.{sum-chosen}
 use Rattle.laws.specs.Ranks.{before-mono}
 use Rattle.laws.specs.Division.{share-at-most}
 use Rattle.laws.specs.ShareSum.{Distinct, order, share-sum}
-use Rattle.laws.specs.Alike.{share-alike}
+use Rattle.consequences.specs.Alike.{share-alike}
 
 module _ {A : Type 0} (code : A → List ℕ) (weight : A → ℕ) (x : ℕ) (all : List A) where
   abbrev sum : ℕ

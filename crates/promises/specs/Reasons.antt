@@ -1,152 +1,137 @@
--- "A book is refused only for a reason in the table": for each number, what is then true of the book at that place.
+-- Document 01, "Refusal numbers": for each rule that one field can break a test of its own, and the order of the rules.
 -- Assumes nothing.
-use Prim.Native.Nat.{ℕ, _+_, _≤_, _<_}
-use mathlib.Core.Path.{_≡_, refl, sym, ap, subst, _∙_}
-use mathlib.Core.Bool.{Bool, true, false, cond, not, _||_}
+use Prim.Native.Nat.{ℕ}
+use Prim.Native.Char.{Char}
+use mathlib.Core.Path.{_≡_}
+use mathlib.Core.Bool.{Bool, true, false, cond, not, _&&_, _||_}
 use mathlib.Core.List.{List, [], _∷_, _++_}
-use lib.ListN.{length, drop}
+use lib.ListN.{length}
 use lib.Dec.{leb, ltb, eqb}
-use borrow.Author.Tests.{leb-true, leb-false, ltb-true}
-use native.Mathlib.Omega.{arith}
 use Rattle.rules.specs.declared.Terms.{Terms}
-use Rattle.rules.specs.declared.Fen.{Fen}
-use Rattle.rules.specs.declared.Lots.{Lots}
-use Rattle.rules.specs.declared.Rate.{Rate}
 use Rattle.rules.specs.declared.Form.{Form}
-use Rattle.rules.specs.declared.Trade.{Trade}
-use Rattle.rules.specs.declared.Figure.{Figure}
-use Rattle.rules.specs.declared.Figure.the-variants.{Value, Comma, Malformed}
-use Rattle.rules.specs.declared.Opening.{Opening}
-use Rattle.rules.specs.declared.Opening.the-variants.{Made}
-use Rattle.rules.specs.declared.Opening.the-variants.{Comma as CommaIn}
-use Rattle.rules.specs.declared.Opening.the-variants.{Malformed as NoTrade}
+use Rattle.rules.specs.Refusal as refusal
+use Rattle.rules.specs.Limits.{mostCustomers}
 use Rattle.rules.specs.Text.{is, bytes}
-use Rattle.rules.specs.Figures.{priceForm, rateForm, heldForm, lots, has, figureOf, openingOf, formed, number, inRange}
+use Rattle.rules.specs.Figures.{priceForm, rateForm, heldForm, tradedForm, has, formed, number, inRange, upToBlank, afterBlank}
 use Rattle.rules.specs.Codes.{isCode, same}
-use Rattle.rules.specs.Fields.{Field, Whole, Cut, fieldsOf}
-use Rattle.rules.specs.Book.{
-  Customer,
-  uncovered,
-  overdrawn,
-  given,
-  Step,
-  Stop,
-  Next,
-  must,
-  refuse,
-  figure,
-  trade,
-  lock,
-  holding,
-  Group,
-  Nobody,
-  Coded,
-  Long,
-  Short,
-  Trading,
-  within,
-  Due,
-  DueD,
-  DueS,
-  DueL,
-  DueU,
-  DueV,
-  InGroup,
-  Stage,
-  Reading,
-  Ended,
-  closed,
-  opens,
-  ends,
-  goesOn,
-  step,
-  Verdict,
-  Refused,
-  Accepted,
-  placed,
-  walk,
-  judge,
-}
-use Rattle.laws.specs.Fields.{sizeAt, fields-end, fields-whole, fields-next}
-use Rattle.laws.specs.Keeps.{Keeps}
+use Rattle.rules.specs.Book.{Customer, uncovered, given, Nobody, Open, DueK, DueH, DueQ, DueTrade, begun}
+use Rattle.rules.specs.Book.{Due, AtTerm, InGroup, DueD, DueS, DueL, DueU, DueV}
+
+-- What was read before the field: the terms; the customer whose group is open, or nobody, who has no lots and no trades; and the customers up to
+-- a C or Z that stands here, with the one whose group it closes.
+
+abbrev pub termsRead : Due → Terms
+termsRead (AtTerm term ts) = ts
+termsRead (InGroup terms cs g) = terms
+
+abbrev pub customerRead : Due → Customer
+customerRead (AtTerm term ts) = begun []
+customerRead (InGroup terms cs Nobody) = begun []
+customerRead (InGroup terms cs (Open part c)) = c
+
+abbrev pub customersRead : Due → List Customer
+customersRead (AtTerm term ts) = []
+customersRead (InGroup terms cs Nobody) = cs
+customersRead (InGroup terms cs (Open part c)) = cs ++ c ∷ []
 
 -- "Terms, each once: D, S, L, U, V", then groups of "C, K, H, Q, then opening trades, each B or A", then "Z": the tags that may stand where
-abbrev pub belongsIn : Group → ℕ → Bool
-belongsIn Nobody t = is "C" t || is "Z" t
-belongsIn (Coded code) t = is "K" t
-belongsIn (Long code k) t = is "H" t
-belongsIn (Short code k h) t = is "Q" t
-belongsIn (Trading c) t = is "C" t || is "Z" t || is "B" t || is "A" t
-
 abbrev pub belongs : Due → ℕ → Bool
-belongs DueD t = is "D" t
-belongs (DueS d) t = is "S" t
-belongs (DueL d s) t = is "L" t
-belongs (DueU d s l) t = is "U" t
-belongs (DueV d s l u) t = is "V" t
-belongs (InGroup terms cs g) t = belongsIn g t
+belongs (AtTerm DueD ts) t = is "D" t
+belongs (AtTerm DueS ts) t = is "S" t
+belongs (AtTerm DueL ts) t = is "L" t
+belongs (AtTerm DueU ts) t = is "U" t
+belongs (AtTerm DueV ts) t = is "V" t
+belongs (InGroup terms cs Nobody) t = is "C" t || is "Z" t
+belongs (InGroup terms cs (Open DueK c)) t = is "K" t
+belongs (InGroup terms cs (Open DueH c)) t = is "H" t
+belongs (InGroup terms cs (Open DueQ c)) t = is "Q" t
+belongs (InGroup terms cs (Open DueTrade c)) t = is "C" t || is "Z" t || is "B" t || is "A" t
 
--- "S, L, U, V, K, H, Q, B or A"
-abbrev pub isFigure : ℕ → Bool
-isFigure t = is "S" t || is "L" t || is "U" t || is "V" t || is "K" t || is "H" t || is "Q" t || is "B" t || is "A" t
+-- a field of this letter stands here, and it belongs
+abbrev pub stands : Char → Due → ℕ → Bool
+stands letter due t = is letter t && belongs due t
 
-abbrev pub isValue : Figure → Bool
-isValue (Value n) = true
-isValue Comma = false
-isValue Malformed = false
+-- a value is a figure of a form, in its range; "a price, one blank (0x20), lots"
+abbrev pub isFigure : Form → List ℕ → Bool
+isFigure form v = formed form v && inRange form (number form v)
 
-abbrev pub isMade : Opening → Bool
-isMade (Made t) = true
-isMade CommaIn = false
-isMade NoTrade = false
+abbrev pub isTrade : List ℕ → Bool
+isTrade v = isFigure priceForm (upToBlank v) && isFigure tradedForm (afterBlank v)
 
--- a value is of the form and range of its tag
+-- the table of tags and values, with "Z, length 0"; no other tag has a form
 abbrev pub isOf : ℕ → List ℕ → Bool
 isOf t v =
     cond (is "D" t) (same v (bytes "D") || same v (bytes "U"))
-    (cond (is "S" t) (isValue (figureOf priceForm v))
-    (cond (is "L" t || is "U" t || is "V" t) (isValue (figureOf rateForm v))
-    (cond (is "K" t || is "H" t || is "Q" t) (isValue (figureOf heldForm v))
-    (cond (is "B" t || is "A" t) (isMade (openingOf (is "B" t) v))
-    (cond (is "C" t) (isCode v) (eqb (length v) 0))))))
+    (cond (is "S" t) (isFigure priceForm v)
+    (cond (is "L" t || is "U" t || is "V" t) (isFigure rateForm v)
+    (cond (is "C" t) (isCode v)
+    (cond (is "K" t || is "H" t || is "Q" t) (isFigure heldForm v)
+    (cond (is "B" t || is "A" t) (isTrade v)
+    (cond (is "Z" t) (eqb (length v) 0) true))))))
 
--- the customers up to a C or Z, with the one whose group it closes
-abbrev pub upTo : List Customer → Group → List Customer
-upTo cs Nobody = cs
-upTo cs (Coded code) = cs
-upTo cs (Long code k) = cs
-upTo cs (Short code k h) = cs
-upTo cs (Trading c) = cs ++ c ∷ []
+-- A rule: its number, and whether a field breaks it, by what was read before the field, its tag t and its value v.
+pub record Rule : Type 0 where
+  pub number : ℕ
+  pub breaks : Due → ℕ → List ℕ → Bool
 
--- A field with tag t and value v, where so much was read before it, breaks rule n
-pub data Breaks : Due → ℕ → List ℕ → ℕ → Type 0 where
-  wrong-tag : {due : Due} {t : ℕ} {v : List ℕ} → belongs due t ≡ false → Breaks due t v 3
-  comma : {due : Due} {t : ℕ} {v : List ℕ} → isFigure t ≡ true → has "," v ≡ true → Breaks due t v 4
-  form : {due : Due} {t : ℕ} {v : List ℕ} → isOf t v ≡ false → Breaks due t v 5
-  edges : {d : Bool} {s : Fen} {l u : Rate} {t x : ℕ} {v : List ℕ} → figureOf rateForm v ≡ Value x → u .0 ≤ x → Breaks (DueV d s l u) t v 6
-  twice : {terms : Terms} {cs : List Customer} {g : Group} {t : ℕ} {v : List ℕ} → is "C" t ≡ true → given v (upTo cs g) ≡ true → Breaks (InGroup terms cs g) t v 7
-  overdraws :
-      {terms : Terms} {cs : List Customer} {code : List ℕ} {k h : Lots} {t q : ℕ} {v : List ℕ} →
-      figureOf heldForm v ≡ Value q → overdrawn terms (record { long = k; short = h; unfilled = lots q }) ≡ true → Breaks (InGroup terms cs (Short code k h)) t v 8
-  uncovers :
-      {terms : Terms} {cs : List Customer} {c : Customer} {t : ℕ} {v : List ℕ} →
-      (is "C" t || is "Z" t) ≡ true → uncovered c ≡ true → Breaks (InGroup terms cs (Trading c)) t v 9
-  too-many :
-      {terms : Terms} {cs : List Customer} {g : Group} {t : ℕ} {v : List ℕ} → is "C" t ≡ true → 256 ≤ length (upTo cs g) → Breaks (InGroup terms cs g) t v 10
+abbrev rule : ℕ → (Due → ℕ → List ℕ → Bool) → Rule
+rule number breaks = record { number = number; breaks = breaks }
 
--- The fields of a book up to a place are all good and lead to a stage; the last C before it is at lastC
-pub data Reached (s : List ℕ) : Stage → ℕ → ℕ → Type 0 where
-  front : Reached s (Reading DueD) 0 0
-  further :
-      {due : Due} {lastC at t : ℕ} {v : List ℕ} {fs : List Field} {stage : Stage} →
-      Reached s (Reading due) lastC at → fieldsOf (drop at s) ≡ Whole t v ∷ fs → step due t v ≡ Next stage →
-      Reached s stage (cond (is "C" t) at lastC) (at + 3 + length v)
+-- "the tag doesn't belong there"
+abbrev pub rule3 : Rule
+rule3 = rule refusal.misplaced (λ due t v. not (belongs due t))
 
--- Why a book is refused with a number and a place. The place of 9 is "its C tag", the last one; of the others the field's own
-pub data Reason (s : List ℕ) : ℕ → ℕ → Type 0 where
-  too-long : 60_000 < length s → Reason s 1 0
-  cut-short : {due : Due} {lastC place : ℕ} → Reached s (Reading due) lastC place → length s < place + 3 + sizeAt s place → Reason s 2 place
-  after-end : {terms : Terms} {cs : List Customer} {lastC place : ℕ} → Reached s (Ended terms cs) lastC place → place < length s → Reason s 3 place
-  broken :
-      {due : Due} {lastC at t n : ℕ} {v : List ℕ} {fs : List Field} →
-      Reached s (Reading due) lastC at → fieldsOf (drop at s) ≡ Whole t v ∷ fs → Breaks due t v n → Reason s n (cond (eqb n 9) lastC at)
+-- "a comma (0x2C) stands in S, L, U, V, K, H, Q, B or A"
+abbrev pub rule4 : Rule
+rule4 =
+    rule refusal.comma (λ due t v.
+    (is "S" t || is "L" t || is "U" t || is "V" t || is "K" t || is "H" t || is "Q" t || is "B" t || is "A" t) && has "," v)
+
+-- "a value is otherwise not of its form or range"
+abbrev pub rule5 : Rule
+rule5 = rule refusal.malformed (λ due t v. not (isOf t v))
+
+-- "U is not greater than V"
+abbrev pub rule6 : Rule
+rule6 = rule refusal.edges (λ due t v. stands "V" due t && isFigure rateForm v && leb (termsRead due .edge1 .0) (number rateForm v))
+
+-- "a customer code was given before"
+abbrev pub rule7 : Rule
+rule7 = rule refusal.givenBefore (λ due t v. stands "C" due t && given v (customersRead due))
+
+-- "Q exceeds K when locked down, or H when locked up"
+abbrev pub rule8 : Rule
+rule8 =
+    rule refusal.overdrawn (λ due t v.
+    let p = customerRead due .position in
+    stands "Q" due t && isFigure heldForm v && ltb (cond (termsRead due .down) (p .long .0) (p .short .0)) (number heldForm v))
+
+-- "the customer's opening trades on the side of its net position sum to less than that position", "at C or Z after a customer"
+abbrev pub rule9 : Rule
+rule9 = rule refusal.uncovered (λ due t v. (stands "C" due t || stands "Z" due t) && uncovered (customerRead due))
+
+-- "a C after 256 customers"
+abbrev pub rule10 : Rule
+rule10 = rule refusal.tooMany (λ due t v. stands "C" due t && leb mostCustomers (length (customersRead due)))
+
+-- "For one field: 2, 3, then (at C or Z after a customer) 9 for that customer, then 10, 4, 5, then 6 at V, 7 at C, 8 at Q." A field has a tag and a
+-- value only where 2 is not broken
+abbrev pub inOrder : List Rule
+inOrder = rule3 ∷ rule9 ∷ rule10 ∷ rule4 ∷ rule5 ∷ rule6 ∷ rule7 ∷ rule8 ∷ []
+
+module _ (due : Due) (t : ℕ) (v : List ℕ) where
+  -- of rules in order, the first that the field breaks has number n
+  pub data FirstOf : List Rule → ℕ → Type 0 where
+    here : {r : Rule} {rs : List Rule} → r .breaks due t v ≡ true → FirstOf (r ∷ rs) (r .number)
+    after : {r : Rule} {rs : List Rule} {n : ℕ} → r .breaks due t v ≡ false → FirstOf rs n → FirstOf (r ∷ rs) n
+
+  -- the field breaks none of them
+  pub data NoneOf : List Rule → Type 0 where
+    done : NoneOf []
+    kept : {r : Rule} {rs : List Rule} → r .breaks due t v ≡ false → NoneOf rs → NoneOf (r ∷ rs)
+
+  abbrev pub First : ℕ → Type 0
+  First n = FirstOf inOrder n
+
+  abbrev pub Sound : Type 0
+  Sound = NoneOf inOrder

@@ -1,309 +1,134 @@
--- Each refusal has its reason. What a step refuses, it refuses for a rule that the field breaks; the walk refuses where a step does, where no
--- field stands, or where bytes follow Z.
+-- "Given exactly when", proved. Where the fields before a place are sound, the judgement of the book is the walk from there; so a book gets what it is
+-- given, and is accepted where it is sound. Every book is one or the other, and `judge` says one thing of it: so it gets nothing else.
 -- Assumes nothing.
-use Prim.Native.Nat.{ℕ, _+_, _≤_, _<_}
-use Prim.Native.Char.{Char, code}
-use mathlib.Core.Path.{_≡_, refl, sym, ap, subst, _∙_}
-use mathlib.Core.Bool.{Bool, true, false, cond, not, _&&_, _||_}
-use mathlib.Core.List.{List, [], _∷_, _++_}
-use lib.ListN.{length, drop}
-use lib.Dec.{leb, ltb, eqb}
-use borrow.Author.Tests.{leb-true, leb-false, ltb-true, eqb-true, ne-eqb}
+use Prim.Native.Nat.{ℕ, zero, suc, _+_, _≤_, _<_}
+use mathlib.Core.Path.{_≡_, refl, sym, ap, ap₂, subst, _∙_}
+use mathlib.Core.Bool.{cond}
+use mathlib.Core.List.{List}
+use mathlib.Core.Logic.{_↔_}
+use lib.ListN.{length, drop, length-take, length-drop}
+use lib.Dec.{leb}
+use borrow.Author.Tests.{leb-true, leb-false, lt-ltb, le-ltb}
 use native.Mathlib.Omega.{arith}
 use Rattle.rules.specs.declared.Terms.{Terms}
-use Rattle.rules.specs.declared.Form.{Form}
-use Rattle.rules.specs.declared.Trade.{Trade}
-use Rattle.rules.specs.declared.Figure.{Figure}
-use Rattle.rules.specs.declared.Figure.the-variants.{Value, Comma, Malformed}
-use Rattle.rules.specs.declared.Opening.{Opening}
-use Rattle.rules.specs.declared.Opening.the-variants.{Made}
-use Rattle.rules.specs.declared.Opening.the-variants.{Comma as CommaIn}
-use Rattle.rules.specs.declared.Opening.the-variants.{Malformed as NoTrade}
-use Rattle.rules.specs.Text.{is, bytes}
-use Rattle.rules.specs.Figures.{priceForm, rateForm, heldForm, tradedForm, lots, has, formed, number, inRange, figureOf, openingOf, tradeFrom, upToBlank, afterBlank}
-use Rattle.rules.specs.Codes.{isCode, same}
-use Rattle.rules.specs.Fields.{Field, Whole, Cut, fieldsOf}
-use Rattle.rules.specs.Division.{oneIf}
-use Rattle.rules.specs.Book.{
-  Customer,
-  uncovered,
-  overdrawn,
-  given,
-  Step,
-  Stop,
-  Next,
-  must,
-  refuse,
-  figure,
-  trade,
-  lock,
-  Group,
-  Nobody,
-  Coded,
-  Long,
-  Short,
-  Trading,
-  within,
-  Due,
-  DueD,
-  DueS,
-  DueL,
-  DueU,
-  DueV,
-  InGroup,
-  Stage,
-  Reading,
-  Ended,
-  closed,
-  opens,
-  ends,
-  goesOn,
-  step,
-  Verdict,
-  Refused,
-  Accepted,
-  placed,
-  walk,
-  judge,
-}
-use Rattle.laws.specs.Fields.{sizeAt, fields-end, fields-whole, fields-next}
-use Rattle.laws.specs.Keeps.{Keeps}
-use Rattle.promises.specs.Reasons.{
-  belongs,
-  isFigure,
-  isValue,
-  isMade,
-  isOf,
-  upTo,
-  Breaks,
-  wrong-tag,
-  comma,
-  form,
-  edges,
-  twice,
-  overdraws,
-  uncovers,
-  too-many,
-  Reached,
-  front,
-  further,
-  Reason,
-  too-long,
-  cut-short,
-  after-end,
-  broken,
-}
+use Rattle.rules.specs.Limits.{longestBook}
+use Rattle.rules.specs.Text.{is}
+use Rattle.rules.specs.Fields.{fieldsOf}
+use Rattle.rules.specs.Book.{Customer, Step, Stop, Next, Due, Stage, Reading, Ended, step, Refused, Accepted, placed, walk, judge}
+use Rattle.laws.specs.Fields.{fields-end, fields-cut, fields-whole}
+use Rattle.laws.specs.ByTest.{by-test}
+use Rattle.promises.specs.Reasons.{First, Sound}
+use Rattle.promises.specs.Exactly.{stops-exactly, leads-exactly}
+use Rattle.promises.specs.Given.{leads, tagAt, valueAt, endAt, Reached, front, further}
+use Rattle.promises.specs.Given.{Given, too-long, cut-short, after-end, broken, SoundBook, Decided, refused, accepted}
 
--- a step's refusal has a reason; nothing is asked of what it leads to
-abbrev Why : {A : Type 0} → (ℕ → Type 0) → Step A → Type 0
-Why {A} Q r = Keeps Q (λ (a : A). Unit {0}) r
-
-module _ {A : Type 0} (Q : ℕ → Type 0) where
-  must-why : (b : Bool) (r : Step A) → (b ≡ false → Q 3) → (b ≡ true → Why Q r) → Why Q (must b r)
-  must-why true r f g = g refl
-  must-why false r f g = f refl
-
-  refuse-why : (n : ℕ) (b : Bool) (r : Step A) → (b ≡ true → Q n) → (b ≡ false → Why Q r) → Why Q (refuse n b r)
-  refuse-why n true r f g = f refl
-  refuse-why n false r f g = g refl
-
-  figure-why : (f : Figure) (next : ℕ → Step A) → (f ≡ Comma → Q 4) → (f ≡ Malformed → Q 5) → ((n : ℕ) → f ≡ Value n → Why Q (next n)) → Why Q (figure f next)
-  figure-why (Value n) next q₄ q₅ h = h n refl
-  figure-why Comma next q₄ q₅ h = q₄ refl
-  figure-why Malformed next q₄ q₅ h = q₅ refl
-
-  trade-why : (o : Opening) (next : Trade → Step A) → (o ≡ CommaIn → Q 4) → (o ≡ NoTrade → Q 5) → ((t : Trade) → Why Q (next t)) → Why Q (trade o next)
-  trade-why (Made t) next q₄ q₅ h = h t
-  trade-why CommaIn next q₄ q₅ h = q₄ refl
-  trade-why NoTrade next q₄ q₅ h = q₅ refl
-
-  lock-why : (v : List ℕ) (next : Bool → Step A) → ((same v (bytes "D") || same v (bytes "U")) ≡ false → Q 5) → ((d : Bool) → Why Q (next d)) → Why Q (lock v next)
-  lock-why v next q h = go (same v (bytes "D")) (same v (bytes "U")) q
-    where
-      go : (a b : Bool) → ((a || b) ≡ false → Q 5) → Why Q (cond a (next true) (cond b (next false) (Stop 5)))
-      go true b q = h true
-      go false true q = h false
-      go false false q = q refl
-
--- the tag that a test names
-tag-is : (c : Char) (t : ℕ) → is c t ≡ true → t ≡ code c
-tag-is c t e = eqb-true t (code c) e
-
--- only a comma makes a comma of a figure, and of a trade
-isComma : Figure → Bool
-isComma (Value n) = false
-isComma Comma = true
-isComma Malformed = false
-
-figure-comma : (f : Form) (v : List ℕ) → figureOf f v ≡ Comma → has "," v ≡ true
-unfolding figureOf isComma
-figure-comma f v e = sym (go (has "," v) (formed f v && inRange f (number f v))) ∙ ap isComma e
-  where
-    go : (a b : Bool) → isComma (cond a Comma (cond b (Value (number f v)) Malformed)) ≡ a
-    go true b = refl
-    go false true = refl
-    go false false = refl
-
-isCommaIn : Opening → Bool
-isCommaIn (Made t) = false
-isCommaIn CommaIn = true
-isCommaIn NoTrade = false
-
-trade-comma : (bought : Bool) (v : List ℕ) → openingOf bought v ≡ CommaIn → has "," v ≡ true
-unfolding openingOf isCommaIn
-trade-comma bought v e = sym (go (has "," v) (figureOf priceForm (upToBlank v)) (figureOf tradedForm (afterBlank v))) ∙ ap isCommaIn e
-  where
-    go : (a : Bool) (p n : Figure) → isCommaIn (cond a CommaIn (tradeFrom bought p n)) ≡ a
-    go true p n = refl
-    go false (Value p) (Value n) = refl
-    go false (Value p) Comma = refl
-    go false (Value p) Malformed = refl
-    go false Comma n = refl
-    go false Malformed n = refl
-
--- a field whose value is a figure, where its tag is due
-module _ {A : Type 0} (due : Due) (c : Char) (t : ℕ) (v : List ℕ) (f : Form) where
-  figure-breaks :
-      belongs due t ≡ is c t → isFigure (code c) ≡ true → isOf (code c) v ≡ isValue (figureOf f v) → (next : ℕ → Step A) →
-      ((n : ℕ) → is c t ≡ true → figureOf f v ≡ Value n → Why (Breaks due t v) (next n)) →
-      Why (Breaks due t v) (must (is c t) (figure (figureOf f v) next))
-  figure-breaks due-is fig of next h =
-      must-why (Breaks due t v) (is c t) _
-      (λ e. wrong-tag (due-is ∙ e))
-      (λ e.
-      let z = tag-is c t e in
-      figure-why (Breaks due t v) (figureOf f v) next
-      (λ k. comma (ap isFigure z ∙ fig) (figure-comma f v k))
-      (λ k. form (ap (λ (x : ℕ). isOf x v) z ∙ of ∙ ap isValue k))
-      (λ n k. h n e k))
-
--- one of two tags
-either-tag : (c d : Char) (t : ℕ) → (is c t || is d t) ≡ true → (P : ℕ → Type 0) → P (code c) → P (code d) → P t
-either-tag c d t e P p q = go (is c t) (is d t) refl refl e
-  where
-    go : (a b : Bool) → is c t ≡ a → is d t ≡ b → (a || b) ≡ true → P t
-    go true b x y e = subst P (sym (tag-is c t x)) p
-    go false true x y e = subst P (sym (tag-is d t y)) q
-    go false false x y e = absurd (omega (arith, ap oneIf e))
-
-module _ (terms : Terms) (cs : List Customer) (t : ℕ) (v : List ℕ) where
-  -- at C or Z
-  closed-breaks :
-      (g : Group) (next : List Customer → Step Stage) → (is "C" t || is "Z" t) ≡ true →
-      Why (Breaks (InGroup terms cs g) t v) (next (upTo cs g)) → Why (Breaks (InGroup terms cs g) t v) (closed cs g next)
-  closed-breaks Nobody next e h = h
-  closed-breaks (Coded code) next e h = wrong-tag (either-tag "C" "Z" t e (λ x. is "K" x ≡ false) refl refl)
-  closed-breaks (Long code k) next e h = wrong-tag (either-tag "C" "Z" t e (λ x. is "H" x ≡ false) refl refl)
-  closed-breaks (Short code k l) next e h = wrong-tag (either-tag "C" "Z" t e (λ x. is "Q" x ≡ false) refl refl)
-  closed-breaks (Trading c) next e h = refuse-why (Breaks (InGroup terms cs (Trading c)) t v) 9 (uncovered c) _ (λ z. uncovers e z) (λ z. h)
-
-  opens-breaks : (g : Group) → is "C" t ≡ true → Why (Breaks (InGroup terms cs g) t v) (opens terms v (upTo cs g))
-  opens-breaks g e =
-      let Q = Breaks (InGroup terms cs g) t v in
-      refuse-why Q 10 (leb 256 (length (upTo cs g))) _ (λ z. too-many e (leb-true _ _ z)) (λ few.
-      refuse-why Q 5 (not (isCode v)) _ (λ z. form (ap (λ (x : ℕ). isOf x v) (tag-is "C" t e) ∙ not-true (isCode v) z)) (λ good.
-      refuse-why Q 7 (given v (upTo cs g)) _ (λ z. twice e z) (λ new. tt)))
-    where
-      not-true : (b : Bool) → not b ≡ true → b ≡ false
-      not-true true z = sym z
-      not-true false z = refl
-
-  ends-breaks : (g : Group) → is "Z" t ≡ true → Why (Breaks (InGroup terms cs g) t v) (ends terms v (upTo cs g))
-  ends-breaks g e =
-      refuse-why (Breaks (InGroup terms cs g) t v) 5 (ltb 0 (length v)) _
-      (λ z. form (ap (λ (x : ℕ). isOf x v) (tag-is "Z" t e) ∙ ne-eqb (length v) 0 (λ q. omega (arith, ltb-true 0 (length v) z))))
-      (λ z. tt)
-
-  within-breaks : (g : Group) → is "C" t ≡ false → is "Z" t ≡ false → Why (Breaks (InGroup terms cs g) t v) (within terms g t v)
-  unfolding within
-  within-breaks Nobody x y = wrong-tag {due = InGroup terms cs Nobody} {t = t} (rw (x, y) refl)
-  within-breaks (Coded code) x y = figure-breaks (InGroup terms cs (Coded code)) "K" t v heldForm refl refl refl _ (λ n e k. tt)
-  within-breaks (Long code k) x y = figure-breaks (InGroup terms cs (Long code k)) "H" t v heldForm refl refl refl _ (λ n e k. tt)
-  within-breaks (Short code k h) x y =
-      figure-breaks (InGroup terms cs (Short code k h)) "Q" t v heldForm refl refl refl _ (λ q e z.
-      refuse-why (Breaks (InGroup terms cs (Short code k h)) t v) 8 (overdrawn terms (record { long = k; short = h; unfilled = lots q })) _ (λ w. overdraws z w) (λ w. tt))
-  within-breaks (Trading c) x y =
-      let Q = Breaks (InGroup terms cs (Trading c)) t v in
-      must-why Q (is "B" t || is "A" t) _
-      (λ e. wrong-tag {due = InGroup terms cs (Trading c)} {t = t} (rw (x, y) e))
-      (λ e.
-      trade-why Q (openingOf (is "B" t) v) _
-      (λ k. comma (either-tag "B" "A" t e (λ z. isFigure z ≡ true) refl refl) (trade-comma (is "B" t) v k))
-      (λ k. form (either-tag "B" "A" t e (λ z. isMade (openingOf (is "B" z) v) ≡ false → isOf z v ≡ false) (λ z. z) (λ z. z) (ap isMade k)))
-      (λ k. tt))
-
-goes-breaks : (Q : ℕ → Type 0) (terms : Terms) (cs : List Customer) (r : Step Group) → Why Q r → Why Q (goesOn terms cs r)
-goes-breaks Q terms cs (Stop n) h = h
-goes-breaks Q terms cs (Next g) h = tt
-
-step-breaks : (due : Due) (t : ℕ) (v : List ℕ) → Why (Breaks due t v) (step due t v)
-unfolding step
-step-breaks DueD t v =
-    must-why (Breaks DueD t v) (is "D" t) _ (λ e. wrong-tag e) (λ e.
-    lock-why (Breaks DueD t v) v (λ d. Next (Reading (DueS d))) (λ z. form (ap (λ (x : ℕ). isOf x v) (tag-is "D" t e) ∙ z)) (λ d. tt))
-step-breaks (DueS d) t v = figure-breaks (DueS d) "S" t v priceForm refl refl refl _ (λ n e k. tt)
-step-breaks (DueL d s) t v = figure-breaks (DueL d s) "L" t v rateForm refl refl refl _ (λ n e k. tt)
-step-breaks (DueU d s l) t v = figure-breaks (DueU d s l) "U" t v rateForm refl refl refl _ (λ n e k. tt)
-step-breaks (DueV d s l u) t v =
-    figure-breaks (DueV d s l u) "V" t v rateForm refl refl refl _ (λ n e k. refuse-why (Breaks (DueV d s l u) t v) 6 (leb (u .0) n) _ (λ z. edges k (leb-true _ _ z)) (λ z. tt))
-step-breaks (InGroup terms cs g) t v = go (is "C" t) (is "Z" t) refl refl
-  where
-    Q : ℕ → Type 0
-    Q = Breaks (InGroup terms cs g) t v
-
-    go : (p q : Bool) → is "C" t ≡ p → is "Z" t ≡ q → Why Q (cond p (closed cs g (opens terms v)) (cond q (closed cs g (ends terms v)) (goesOn terms cs (within terms g t v))))
-    go true q x y = closed-breaks terms cs t v g (opens terms v) (rw x refl) (opens-breaks terms cs t v g x)
-    go false true x y = closed-breaks terms cs t v g (ends terms v) (rw (x, y) refl) (ends-breaks terms cs t v g y)
-    go false false x y = goes-breaks Q terms cs (within terms g t v) (within-breaks terms cs t v g x y)
+-- `cc` shows 0 and 1 equal where two constructors would be
+differ : _≡_ {A = ℕ} 0 1 → ⊥
+differ e = omega arith
 
 module _ (s : List ℕ) where
-  abbrev Reasoned : Verdict → Type 0
-  Reasoned (Refused n place) = Reason s n place
-  Reasoned (Accepted terms cs) = Unit
+  -- a whole field's value is as long as it says
+  size : (at : ℕ) → endAt s at ≤ length s → at + 3 + length (valueAt s at) ≡ endAt s at
+  size at h = simp (length-take, length-drop) (omega arith)
 
-  wholeFirst : List Field → ℕ
-  wholeFirst [] = 0
-  wholeFirst (Cut ∷ fs) = 0
-  wholeFirst (Whole t v ∷ fs) = 1
+  reached-inside : {stage : Stage} {lastC at : ℕ} → Reached s stage lastC at → at ≤ length s
+  reached-inside (front h) = omega arith
+  reached-inside (further r h sound) = h
 
-  -- no field stands where a field must begin
-  no-field : (at : ℕ) (fs : List Field) → fieldsOf (drop at s) ≡ fs → wholeFirst fs ≡ 0 → length s < at + 3 + sizeAt s at
-  unfolding wholeFirst
-  no-field at fs e h = go (leb (at + 3 + sizeAt s at) (length s)) refl
-    where
-      go : (b : Bool) → leb (at + 3 + sizeAt s at) (length s) ≡ b → length s < at + 3 + sizeAt s at
-      go true k = absurd (omega (arith, h, ap wholeFirst (sym e ∙ fields-whole s at (leb-true _ _ k))))
-      go false k = omega (arith, leb-false)
+  -- the walk at a whole field
+  field-walk :
+      (due : Due) (lastC at : ℕ) → endAt s at ≤ length s → (p : Step Stage) → step due (tagAt s at) (valueAt s at) ≡ p →
+      walk (Reading due) lastC at (fieldsOf (drop at s))
+      ≡ placed lastC at p (λ stage. walk stage (cond (is "C" (tagAt s at)) at lastC) (endAt s at) (fieldsOf (drop (endAt s at) s)))
+  field-walk due lastC at h p e =
+      ap (walk (Reading due) lastC at) (fields-whole s at h)
+      ∙ ap₂ (λ (to : ℕ) (q : Step Stage). placed lastC at q (λ stage. walk stage (cond (is "C" (tagAt s at)) at lastC) to (fieldsOf (drop (endAt s at) s)))) (size at h) e
 
-  more-bytes : (at : ℕ) (f : Field) (fs : List Field) → fieldsOf (drop at s) ≡ f ∷ fs → at < length s
-  more-bytes at f fs e = go (leb (length s) at) refl
-    where
-      go : (b : Bool) → leb (length s) at ≡ b → at < length s
-      go true k = absurd (omega (arith, ap (λ (l : List Field). length l) (sym (fields-end s at (leb-true _ _ k)) ∙ e)))
-      go false k = omega (arith, leb-false)
-
-  walk-reasoned : (st : Stage) (lastC at : ℕ) (fs : List Field) → fieldsOf (drop at s) ≡ fs → Reached s st lastC at → Reasoned (walk st lastC at fs)
-  unfolding wholeFirst
-  walk-reasoned (Ended terms cs) lastC at [] e r = tt
-  walk-reasoned (Ended terms cs) lastC at (f ∷ fs) e r = after-end r (more-bytes at f fs e)
-  walk-reasoned (Reading due) lastC at [] e r = cut-short r (no-field at [] e refl)
-  walk-reasoned (Reading due) lastC at (Cut ∷ fs) e r = cut-short r (no-field at (Cut ∷ fs) e refl)
-  walk-reasoned (Reading due) lastC at (Whole t v ∷ fs) e r =
-      go (step due t v) refl (step-breaks due t v) (λ stage k. walk-reasoned stage (cond (is "C" t) at lastC) (at + 3 + length v) fs (sym (fields-next s at t v fs e .rest)) (further r e k))
-    where
-      go : (p : Step Stage) → step due t v ≡ p → Why (Breaks due t v) p →
-          ((stage : Stage) → step due t v ≡ Next stage → Reasoned (walk stage (cond (is "C" t) at lastC) (at + 3 + length v) fs)) →
-          Reasoned (placed lastC at p (λ stage. walk stage (cond (is "C" t) at lastC) (at + 3 + length v) fs))
-      go (Stop n) k h ih = broken r e h
-      go (Next stage) k h ih = ih stage k
-
-  judge-reasoned : Reasoned (judge s)
+  -- the judgement is the walk from any place that is reached
+  reached-walk : {stage : Stage} {lastC at : ℕ} → Reached s stage lastC at → judge s ≡ walk stage lastC at (fieldsOf (drop at s))
   unfolding judge
-  judge-reasoned = go (ltb 60_000 (length s)) refl
-    where
-      go : (b : Bool) → ltb 60_000 (length s) ≡ b → Reasoned (cond b (Refused 1 0) (walk (Reading DueD) 0 0 (fieldsOf s)))
-      go true k = too-long (ltb-true _ _ k)
-      go false k = walk-reasoned (Reading DueD) 0 0 (fieldsOf s) refl front
+  reached-walk (front h) = rw (le-ltb longestBook (length s) h) refl
+  reached-walk (further {due = due} {lastC = lastC} {at = at} r h sound) =
+      let stage = leads due (tagAt s at) (valueAt s at) in
+      reached-walk r ∙ field-walk due lastC at h (Next stage) (leads-exactly due (tagAt s at) (valueAt s at) stage .1 (sound, refl))
 
-  pub refused-reason : (n place : ℕ) → judge s ≡ Refused n place → Reason s n place
-  refused-reason n place e = subst Reasoned e judge-reasoned
+  given-refused : {n place : ℕ} → Given s n place → judge s ≡ Refused n place
+  unfolding judge
+  given-refused (too-long h) = rw (lt-ltb longestBook (length s) h) refl
+  given-refused (cut-short {due = due} {lastC = lastC} {at = at} r h) =
+      reached-walk r
+      ∙ by-test (leb (length s) at)
+      (λ e. ap (walk (Reading due) lastC at) (fields-end s at (leb-true _ _ e)))
+      (λ e. ap (walk (Reading due) lastC at) (fields-cut s at (leb-false _ _ e) h))
+  given-refused (after-end {terms = terms} {cs = cs} {lastC = lastC} {at = at} r h) =
+      reached-walk r
+      ∙ by-test (leb (endAt s at) (length s))
+      (λ e. ap (walk (Ended terms cs) lastC at) (fields-whole s at (leb-true _ _ e)))
+      (λ e. ap (walk (Ended terms cs) lastC at) (fields-cut s at h (leb-false _ _ e)))
+  given-refused (broken {due = due} {lastC = lastC} {at = at} {n = n} r h f) =
+      reached-walk r ∙ field-walk due lastC at h (Stop n) (stops-exactly due (tagAt s at) (valueAt s at) n .1 f)
+
+  sound-accepted : {terms : Terms} {cs : List Customer} → SoundBook s terms cs → judge s ≡ Accepted terms cs
+  sound-accepted {terms = terms} {cs = cs} b = reached-walk (b .whole) ∙ ap (walk (Ended terms cs) (b .lastC) (length s)) (fields-end s (length s) (omega arith))
+
+  -- a whole field breaks a rule, or is sound
+  by-step : (due : Due) (t : ℕ) (v : List ℕ) → ((n : ℕ) → First due t v n → Decided s) → (Sound due t v → Decided s) → Decided s
+  by-step due t v stops next = go (step due t v) refl
+    where
+      go : (p : Step Stage) → step due t v ≡ p → Decided s
+      go (Stop n) e = stops n (stops-exactly due t v n .0 e)
+      go (Next stage) e = next (leads-exactly due t v stage .0 e .0)
+
+  -- from a place that is reached, no more than the bytes that are left
+  decided-from : (left : ℕ) (stage : Stage) (lastC at : ℕ) → length s < at + left → Reached s stage lastC at → Decided s
+  decided-from zero stage lastC at h r = let k = reached-inside r in absurd (omega arith)
+  decided-from (suc left) (Ended terms cs) lastC at h r =
+      by-test (leb (length s) at)
+      (λ e.
+      let here : at ≡ length s = omega (arith, leb-true, reached-inside r) in
+      accepted (record { lastC = lastC; whole = subst (Reached s (Ended terms cs) lastC) here r }))
+      (λ e. refused (after-end r (leb-false _ _ e)))
+  decided-from (suc left) (Reading due) lastC at h r =
+      by-test (leb (endAt s at) (length s))
+      (λ e.
+      let inside : endAt s at ≤ length s = leb-true _ _ e in
+      by-step due (tagAt s at) (valueAt s at)
+      (λ n f. refused (broken r inside f))
+      (λ sound. decided-from left _ _ (endAt s at) (omega arith) (further r inside sound)))
+      (λ e. refused (cut-short r (leb-false _ _ e)))
+
+  pub decided : Decided s
+  decided =
+      by-test (leb (length s) longestBook)
+      (λ e. decided-from (suc (length s)) _ 0 0 (omega arith) (front (leb-true _ _ e)))
+      (λ e. refused (too-long (leb-false _ _ e)))
+
+  -- A book gets a number at a place exactly when they are given, and is accepted exactly when it is sound.
+  pub refused-exactly : (n place : ℕ) → (judge s ≡ Refused n place) ↔ Given s n place
+  refused-exactly n place = (λ e. go decided e, λ g. given-refused g)
+    where
+      go : Decided s → judge s ≡ Refused n place → Given s n place
+      go (refused {n = m} {place = at} g) e =
+          let both : Refused m at ≡ Refused n place = sym (given-refused g) ∙ e in
+          let number : m ≡ n = cc in
+          let there : at ≡ place = cc in
+          subst (λ (x : ℕ). Given s x place) number (subst (Given s m) there g)
+      go (accepted {terms = terms} {cs = cs} b) e = let both : Accepted terms cs ≡ Refused n place = sym (sound-accepted b) ∙ e in absurd (differ cc)
+
+  pub accepted-exactly : (terms : Terms) (cs : List Customer) → (judge s ≡ Accepted terms cs) ↔ SoundBook s terms cs
+  accepted-exactly terms cs = (λ e. go decided e, λ b. sound-accepted b)
+    where
+      go : Decided s → judge s ≡ Accepted terms cs → SoundBook s terms cs
+      go (refused {n = m} {place = at} g) e = let both : Refused m at ≡ Accepted terms cs = sym (given-refused g) ∙ e in absurd (differ cc)
+      go (accepted {terms = ts} {cs = ds} b) e =
+          let both : Accepted ts ds ≡ Accepted terms cs = sym (sound-accepted b) ∙ e in
+          let same-terms : ts ≡ terms = cc in
+          let same-customers : ds ≡ cs = cc in
+          subst (λ (x : Terms). SoundBook s x cs) same-terms (subst (SoundBook s ts) same-customers b)
+
+  -- at most one number and one place is given, and none to a book that is sound
+  pub given-once : {m n p q : ℕ} → Given s m p → Given s n q → (m ≡ n) × (p ≡ q)
+  given-once {m = m} {n = n} {p = p} {q = q} g h = let both : Refused m p ≡ Refused n q = sym (given-refused g) ∙ given-refused h in (cc, cc)
+
+  pub never-both : {n place : ℕ} {terms : Terms} {cs : List Customer} → Given s n place → SoundBook s terms cs → ⊥
+  never-both {n = n} {place = place} {terms = terms} {cs = cs} g b = let both : Refused n place ≡ Accepted terms cs = sym (given-refused g) ∙ sound-accepted b in differ cc

@@ -21,23 +21,22 @@ use Rattle.rules.specs.Standing.{countedPending}
 use Rattle.rules.specs.Division.{sumOf}
 use Rattle.rules.specs.Cascade.{Line, Outcome, codeOf, tierOf, offeredBy, pendingBy, pendingOf, offeredIn, lineOf, outcome}
 use Rattle.rules.specs.Answer.{answer}
-use Rattle.rules.specs.Rearranged.{nobody}
+use Rattle.consequences.specs.Rearranged.{nobody}
 use Rattle.laws.specs.Sums.{upTo, sum-index, sum-map, sum-cong, upTo-cong, upTo-tight}
 use Rattle.laws.specs.Sane.{codeIn}
-use Rattle.laws.specs.Picks.{getD-in}
-use Rattle.laws.specs.Offsets.{isPending, closedBy, givenIn}
-use Rattle.laws.specs.Balance.{Balanced}
-use Rattle.laws.specs.Within.{Within, as-many, codes-cascade}
-use Rattle.laws.specs.Lines.{book-balanced, book-within}
+use Rattle.laws.specs.Indices.{getD-in}
+use Rattle.consequences.specs.Offsets.{isPending, closedBy, givenIn}
+use Rattle.consequences.specs.Balance.{Balanced}
+use Rattle.consequences.specs.Within.{Within, as-many, codes-cascade}
+use Rattle.consequences.specs.Lines.{book-balanced, book-within}
 use Rattle.rules.specs.Report.{digits, letter, field, joined, reported, report}
 use Rattle.laws.specs.ByTest.{by-test}
 use Rattle.laws.specs.Digits.{number-digits}
-use Rattle.laws.specs.Framed.{Framed, framed-append, field-framed}
+use Rattle.consequences.specs.Framed.{Framed, framed-append, field-framed}
 use Rattle.promises.specs.Statement.{Entry, noEntry, Told, entriesIn, told, entryBytes, toldBytes, stake, letterAt, lotsAt, positionAt, lotsOf, pendingAt, GaveAll, Statement, Stated}
 use Rattle.promises.specs.Outcomes.{noCustomer, outcomeOf, accepted-fits, fits-report}
-use Rattle.promises.specs.Demands.{Reported, demand-2}
-use Rattle.allotment.specs.declared.Answer.{Answer}
-use Rattle.allotment.specs.Answered.{Answered}
+use Rattle.promises.specs.Call.{Call, bookOf, lentTo, leftBy}
+use Rattle.promises.specs.Demands.{demand-2}
 
 entryOf : Line → Entry
 entryOf l = record { code = l .code; letter = letter (l .standing); lots = l .offset }
@@ -277,11 +276,9 @@ stated book room h =
     rw (fits-report book room f, f .judged) (report-stated book (f .terms) (f .customers) (f .judged))
 
 -- and of the bytes that a call leaves in the buffer, as many as it says
-pub stated-call : (book entry : List ℕ) (r : Answer) (exit : List ℕ) → Answered (answer book (length entry)) r entry exit → r .number ≡ 0 → Stated book (take (r .length) exit)
-stated-call book entry r exit a h = go (demand-2 book entry r exit a h)
-  where
-    go : Reported book entry r exit → Stated book (take (r .length) exit)
-    go d =
-        let shown = report (outcome (d .terms) (d .customers)) in
-        let front : take (r .length) exit ≡ shown = ap₂ take (d .size) (d .buffer) ∙ take-at shown (drop (length shown) entry) (length shown) refl in
-        rw front (report-stated book (d .terms) (d .customers) (d .judged))
+pub stated-call : (c : Call) → c .answer .number ≡ 0 → Stated (bookOf c) (take (c .answer .length) (leftBy c))
+stated-call c h =
+    let d = demand-2 c h in
+    let shown = report (outcome (d .terms) (d .customers)) in
+    let front : take (c .answer .length) (leftBy c) ≡ shown = ap₂ take (d .size) (d .buffer) ∙ take-at shown (drop (length shown) (lentTo c)) (length shown) refl in
+    rw front (report-stated (bookOf c) (d .terms) (d .customers) (d .judged))

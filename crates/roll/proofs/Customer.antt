@@ -1,6 +1,6 @@
 -- What the code finds at a C: by its code and its group it is one of the turns over customers.
 -- Assumes nothing.
-use Prim.Native.Nat.{ℕ, _+_, _-_, _*_, _≤_, _<_}
+use Prim.Native.Nat.{ℕ, _+_, _-_, _≤_, _<_}
 use mathlib.Core.Path.{_≡_, refl, sym, ap, subst, _∙_}
 use mathlib.Core.List.{List}
 use mathlib.Core.Bool.{Bool, true, false}
@@ -11,7 +11,7 @@ use borrow.Author.Tests.{leb-true, leb-false}
 use Rattle.rules.specs.declared.Terms.{Terms}
 use Rattle.rules.specs.Codes.{isCode}
 use Rattle.rules.specs.Fields.{fieldsOf}
-use Rattle.rules.specs.Book.{Coded, Refused}
+use Rattle.rules.specs.Book.{afterC, Refused}
 use Rattle.laws.specs.Groups.{groupFrom}
 use Rattle.laws.specs.Fields.{sizeAt}
 use Rattle.fields.specs.declared.Found.the-variants.{Short}
@@ -39,7 +39,7 @@ module _ {s : List ℕ} {terms : Terms} {first at count : ℕ} {keys starts stan
   coded = codeAt at count (take count keys) value
 
   abbrev group : GroupAt
-  group = groupAt terms (groupFrom terms (Coded value) at end (fieldsOf (drop end s)))
+  group = groupAt terms (groupFrom terms (afterC value) at end (fieldsOf (drop end s)))
 
   pub turn-no-customer : (r : Refusal) → customerAt s terms keys count at start end ≡ NoCustomer r → verdictFrom terms first (fieldsOf (drop first s)) ≡ Refused (r .number) (r .place)
   turn-no-customer r e = by coded group refl refl e

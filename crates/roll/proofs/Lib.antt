@@ -1,4 +1,4 @@
 -- What a turn of the loop over customers comes to, over plain lists.
-pub mod Named
 pub mod Turns
 pub mod Customer
+mod Filling

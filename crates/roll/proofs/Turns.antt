@@ -1,7 +1,7 @@
 -- A turn of the loop over customers. Between two groups the arrays hold the customers read so far, and the walk over the book is the walk
 -- from here on with these customers.
 -- Assumes nothing.
-use Prim.Native.Nat.{ℕ, _+_, _-_, _*_, _≤_, _<_}
+use Prim.Native.Nat.{ℕ, _+_, _-_, _≤_, _<_}
 use mathlib.Core.Path.{_≡_, refl, sym, ap, ap₂, subst, _∙_}
 use mathlib.Core.List.{List, [], _∷_, _++_, map, map-append, List·Memᴰ, List·Memᴰ·append-cases, List·Memᴰ·eq-of-singleton, List·Memᴰ·not-nil}
 use mathlib.Core.Bool.{Bool, true, false, cond, not}
@@ -11,30 +11,28 @@ use native.Mathlib.Numerals.{add-one}
 use lib.ListN.{length, take, drop, set, length-append, length-set}
 use lib.Seq.{take-suc-set}
 use lib.Dec.{leb, ltb, eqb}
-use borrow.Author.Tests.{le-leb, lt-leb, leb-true, leb-false, ltb-true, ltb-false, lt-ltb, le-ltb, eq-eqb, ne-eqb}
+use borrow.Author.Tests.{leb-true, leb-false, ltb-true, ltb-false, lt-ltb, le-ltb, ne-eqb}
 use Rattle.rules.specs.declared.Terms.{Terms}
 use Rattle.rules.specs.declared.Standing.{Standing}
+use Rattle.rules.specs.Refusal as refusal
 use Rattle.rules.specs.Text.{is}
 use Rattle.rules.specs.Codes.{isCode}
-use Rattle.rules.specs.Fields.{Field, Whole, Cut, fieldsOf}
+use Rattle.rules.specs.Fields.{Field, Cut, fieldsOf}
 use Rattle.rules.specs.Book.{
   Customer,
   given,
-  Step,
   Stop,
   Next,
   refuse,
   Nobody,
-  Coded,
+  afterC,
   opens,
   ends,
   within,
   InGroup,
-  Stage,
   Reading,
   Ended,
   step,
-  Verdict,
   Refused,
   Accepted,
   placed,
@@ -42,6 +40,7 @@ use Rattle.rules.specs.Book.{
 }
 use Rattle.rules.specs.Standing.{standing}
 use Rattle.rules.specs.Cascade.{offeredBy, pendingBy}
+use Rattle.laws.specs.CodeLength.{code-length}
 use Rattle.laws.specs.Keys.{keyOf}
 use Rattle.laws.specs.Fields.{sizeAt, fields-end, fields-cut, fields-whole}
 use Rattle.laws.specs.Groups.{Read, Bad, Good, groupFrom, carried, walk-group, group-rides}
@@ -57,14 +56,12 @@ use Rattle.fields.specs.declared.Refusal.{Refusal}
 use Rattle.group.specs.declared.GroupAt.{GroupAt}
 use Rattle.group.specs.declared.GroupAt.the-variants.{Closed}
 use Rattle.group.specs.declared.GroupAt.the-variants.{Refused as NoGroup}
-use Rattle.fields.specs.Reading.{refusal}
+use Rattle.fields.specs.Reading.{refusedAt, noRefusal}
 use Rattle.group.specs.Group.{groupAt}
 use Rattle.roll.specs.declared.Roll.{Roll}
-use Rattle.roll.specs.declared.CodeAt.{CodeAt}
 use Rattle.roll.specs.declared.CodeAt.the-variants.{Key as NewKey}
 use Rattle.roll.specs.declared.CodeAt.the-variants.{Refused as NoCode}
-use Rattle.roll.specs.Roll.{byteOf, stakeAs, keyIn, standingIn, stakeIn, CodeIn, Held, Room, Rolled, verdictFrom, newCode, codeAt, endAt}
-use Rattle.roll.proofs.Named.{Ended as Kept, group-code, code-length}
+use Rattle.roll.specs.Roll.{byteOf, stakeAs, keyIn, standingIn, stakeIn, CodeIn, Held, Room, endedWith, Rolled, verdictFrom, newCode, codeAt, endAt}
 
 pub record Between (s : List ℕ) (terms : Terms) (first at count : ℕ) (keys starts standings stakes : List ℕ) : Type 0 where
   pub customers : List Customer
@@ -186,14 +183,17 @@ module _ {s : List ℕ} {terms : Terms} {first at count : ℕ} {keys starts stan
 
     -- Z and what stands behind it: the refusal, or the customers
     pub turn-ended : (r : Refusal) → r ≡ endAt at start end (length s) →
-        Rolled s (verdictFrom terms first (fieldsOf (drop first s))) keys starts standings stakes (record { refusal = r; count = count })
+        Rolled s (verdictFrom terms first (fieldsOf (drop first s))) keys starts standings stakes (endedWith r count)
     turn-ended r e = go (ltb start end) (ltb end (length s)) refl refl e
       where
-        go : (p q : Bool) → ltb start end ≡ p → ltb end (length s) ≡ q → r ≡ cond p (refusal 5 at) (cond q (refusal 3 end) (refusal 0 0)) →
-            Rolled s (verdictFrom terms first (fieldsOf (drop first s))) keys starts standings stakes (record { refusal = r; count = count })
-        go true q x y z = rw (ended true q x y) z
-        go false true x y z = rw (ended false true x y) z
-        go false false x y z = rw (ended false false x y) (z, b .held)
+        as-said : (f : Refusal) → r ≡ f → endedWith r count ≡ endedWith f count
+        as-said f z = ap (λ (x : Refusal). endedWith x count) z
+
+        go : (p q : Bool) → ltb start end ≡ p → ltb end (length s) ≡ q → r ≡ cond p (refusedAt refusal.malformed at) (cond q (refusedAt refusal.misplaced end) (noRefusal)) →
+            Rolled s (verdictFrom terms first (fieldsOf (drop first s))) keys starts standings stakes (endedWith r count)
+        go true q x y z = rw (ended true q x y) (as-said (refusedAt refusal.malformed at) z)
+        go false true x y z = rw (ended false true x y) (as-said (refusedAt refusal.misplaced end) z)
+        go false false x y z = rw (ended false false x y) (subst (λ (t : Roll). (t .refusal ≡ noRefusal) × Held s terms (b .customers) keys starts standings stakes (t .count)) (sym (as-said noRefusal z)) (refl, b .held))
 
   -- C
   module _ {start end : ℕ} (k : Stands s at 67 start end) where
@@ -213,7 +213,7 @@ module _ {s : List ℕ} {terms : Terms} {first at count : ℕ} {keys starts stan
 
     -- what C comes to, by its three tests
     opened : (p q g : Bool) → leb 256 count ≡ p → isCode (value k) ≡ q → given (value k) (b .customers) ≡ g →
-        opens terms (value k) (b .customers) ≡ refuse 10 p (refuse 5 (not q) (refuse 7 g (Next (Reading (InGroup terms (b .customers) (Coded (value k)))))))
+        opens terms (value k) (b .customers) ≡ refuse 10 p (refuse 5 (not q) (refuse 7 g (Next (Reading (InGroup terms (b .customers) (afterC (value k)))))))
     opened p q g x y z = let w : leb 256 (length (b .customers)) ≡ p = sym same-few ∙ x in rw (w, y, z)
 
     refuses : (n : ℕ) → eqb n 9 ≡ false → opens terms (value k) (b .customers) ≡ Stop n → verdictFrom terms first (fieldsOf (drop first s)) ≡ Refused n at
@@ -222,13 +222,13 @@ module _ {s : List ℕ} {terms : Terms} {first at count : ℕ} {keys starts stan
     pub turn-no-code : (r : Refusal) → codeAt at count (take count keys) (value k) ≡ NoCode r → verdictFrom terms first (fieldsOf (drop first s)) ≡ Refused (r .number) (r .place)
     turn-no-code r e = full (leb 256 count) refl e
       where
-        as-said : (n : ℕ) → NoCode (refusal n at) ≡ NoCode r → Refused n at ≡ Refused (r .number) (r .place)
-        as-said n x = let f : refusal n at ≡ r = cc in ap (λ (y : Refusal). Refused (y .number) (y .place)) f
+        as-said : (n : ℕ) → NoCode (refusedAt n at) ≡ NoCode r → Refused n at ≡ Refused (r .number) (r .place)
+        as-said n x = let f : refusedAt n at ≡ r = cc in ap (λ (y : Refusal). Refused (y .number) (y .place)) f
 
         not-new : {x : ℕ} → NewKey x ≡ NoCode r → ⊥
         not-new x = let z : _≡_ {A = ℕ} 0 1 = cc in omega arith
 
-        seen : (x : ℕ) → codeOf (value k) ≡ Key x → leb 256 count ≡ false → (g : Bool) → givenIn (take count keys) x ≡ g → cond g (NoCode (refusal 7 at)) (NewKey x) ≡ NoCode r →
+        seen : (x : ℕ) → codeOf (value k) ≡ Key x → leb 256 count ≡ false → (g : Bool) → givenIn (take count keys) x ≡ g → cond g (NoCode (refusedAt refusal.givenBefore at)) (NewKey x) ≡ NoCode r →
             verdictFrom terms first (fieldsOf (drop first s)) ≡ Refused (r .number) (r .place)
         seen x c f true h y =
             let d = key-read (value k) x c in
@@ -240,7 +240,7 @@ module _ {s : List ℕ} {terms : Terms} {first at count : ℕ} {keys starts stan
         read (Key x) c f y = seen x c f (givenIn (take count keys) x) refl y
         read Malformed c f y = refuses 5 refl (opened false false (given (value k) (b .customers)) f (none-read (value k) c) refl) ∙ as-said 5 y
 
-        full : (p : Bool) → leb 256 count ≡ p → cond p (NoCode (refusal 10 at)) (newCode at (take count keys) (codeOf (value k))) ≡ NoCode r →
+        full : (p : Bool) → leb 256 count ≡ p → cond p (NoCode (refusedAt refusal.tooMany at)) (newCode at (take count keys) (codeOf (value k))) ≡ NoCode r →
             verdictFrom terms first (fieldsOf (drop first s)) ≡ Refused (r .number) (r .place)
         full true f y = refuses 10 refl (opened true (isCode (value k)) (given (value k) (b .customers)) f refl refl) ∙ as-said 10 y
         full false f y = read (codeOf (value k)) refl f y
@@ -252,7 +252,7 @@ module _ {s : List ℕ} {terms : Terms} {first at count : ℕ} {keys starts stan
       pub key-is : keyOf (value k) ≡ key
       pub goes :
           walk (Reading (InGroup terms [] Nobody)) 0 first (fieldsOf (drop first s))
-          ≡ carried terms (b .customers) at (groupFrom terms (Coded (value k)) at end (fieldsOf (drop end s)))
+          ≡ carried terms (b .customers) at (groupFrom terms (afterC (value k)) at end (fieldsOf (drop end s)))
 
     pub turn-new : (key : ℕ) → codeAt at count (take count keys) (value k) ≡ NewKey key → New key
     turn-new key e = full (leb 256 count) refl e
@@ -260,7 +260,7 @@ module _ {s : List ℕ} {terms : Terms} {first at count : ℕ} {keys starts stan
         not-refused : {r : Refusal} → NoCode r ≡ NewKey key → ⊥
         not-refused x = let z : _≡_ {A = ℕ} 0 1 = cc in omega arith
 
-        seen : (x : ℕ) → codeOf (value k) ≡ Key x → leb 256 count ≡ false → (g : Bool) → givenIn (take count keys) x ≡ g → cond g (NoCode (refusal 7 at)) (NewKey x) ≡ NewKey key → New key
+        seen : (x : ℕ) → codeOf (value k) ≡ Key x → leb 256 count ≡ false → (g : Bool) → givenIn (take count keys) x ≡ g → cond g (NoCode (refusedAt refusal.givenBefore at)) (NewKey x) ≡ NewKey key → New key
         seen x c f true h y = absurd (not-refused y)
         seen x c f false h y =
             let d = key-read (value k) x c in
@@ -270,24 +270,24 @@ module _ {s : List ℕ} {terms : Terms} {first at count : ℕ} {keys starts stan
               room = omega (arith, leb-false);
               code = d .0;
               key-is = d .1 ∙ z;
-              goes = at-c ∙ rw (opened false true false f (d .0) g) (walk-group terms (b .customers) (Coded (value k)) at end (fieldsOf (drop end s)) tt);
+              goes = at-c ∙ rw (opened false true false f (d .0) g) (walk-group terms (b .customers) (afterC (value k)) at end (fieldsOf (drop end s)) tt);
             }
 
         read : (c : Code) → codeOf (value k) ≡ c → leb 256 count ≡ false → newCode at (take count keys) c ≡ NewKey key → New key
         read (Key x) c f y = seen x c f (givenIn (take count keys) x) refl y
         read Malformed c f y = absurd (not-refused y)
 
-        full : (p : Bool) → leb 256 count ≡ p → cond p (NoCode (refusal 10 at)) (newCode at (take count keys) (codeOf (value k))) ≡ NewKey key → New key
+        full : (p : Bool) → leb 256 count ≡ p → cond p (NoCode (refusedAt refusal.tooMany at)) (newCode at (take count keys) (codeOf (value k))) ≡ NewKey key → New key
         full true f y = absurd (not-refused y)
         full false f y = read (codeOf (value k)) refl f y
 
     module _ {key : ℕ} (w : New key) where
-      module _ (r : GroupAt) (said : r ≡ groupAt terms (groupFrom terms (Coded (value k)) at end (fieldsOf (drop end s)))) where
+      module _ (r : GroupAt) (said : r ≡ groupAt terms (groupFrom terms (afterC (value k)) at end (fieldsOf (drop end s)))) where
         pub turn-no-group : (f : Refusal) → r ≡ NoGroup f → verdictFrom terms first (fieldsOf (drop first s)) ≡ Refused (f .number) (f .place)
-        turn-no-group f e = w .goes ∙ go (groupFrom terms (Coded (value k)) at end (fieldsOf (drop end s))) (sym said ∙ e)
+        turn-no-group f e = w .goes ∙ go (groupFrom terms (afterC (value k)) at end (fieldsOf (drop end s))) (sym said ∙ e)
           where
             go : (g : Read) → groupAt terms g ≡ NoGroup f → (carried terms (b .customers) at g) ≡ Refused (f .number) (f .place)
-            go (Bad n p) x = let y : refusal n p ≡ f = cc in ap (λ (z : Refusal). Refused (z .number) (z .place)) y
+            go (Bad n p) x = let y : refusedAt n p ≡ f = cc in ap (λ (z : Refusal). Refused (z .number) (z .place)) y
             go (Good c p fs) x = absurd (let z : _≡_ {A = ℕ} 0 1 = cc in omega arith)
 
         -- the customer that was read, and where its group ends
@@ -303,19 +303,19 @@ module _ {s : List ℕ} {terms : Terms} {first at count : ℕ} {keys starts stan
 
         reads : (place : ℕ) (st : Standing) (offered pending : ℕ) → r ≡ Closed place st offered pending → Reads place st offered pending
         unfolding standingIn stakeIn
-        reads place st offered pending e = go (groupFrom terms (Coded (value k)) at end (fieldsOf (drop end s))) refl (sym said ∙ e)
+        reads place st offered pending e = go (groupFrom terms (afterC (value k)) at end (fieldsOf (drop end s))) refl (sym said ∙ e)
           where
-            go : (g : Read) → groupFrom terms (Coded (value k)) at end (fieldsOf (drop end s)) ≡ g → groupAt terms g ≡ Closed place st offered pending → Reads place st offered pending
+            go : (g : Read) → groupFrom terms (afterC (value k)) at end (fieldsOf (drop end s)) ≡ g → groupAt terms g ≡ Closed place st offered pending → Reads place st offered pending
             go (Bad n p) h x = absurd (let z : _≡_ {A = ℕ} 0 1 = cc in omega arith)
             go (Good c p fs) h x =
-                let d = group-rides s terms at (Coded (value k)) end c p fs h in
+                let d = group-rides s terms (value k) at end c p fs h in
                 let e₀ : p ≡ place = cc in
                 let e₁ : standing terms c ≡ st = cc in
                 let e₂ : offeredBy (standing terms c) (c .position) ≡ offered = cc in
                 let e₃ : pendingBy (standing terms c) (c .position) ≡ pending = cc in
                 record {
                   customer = c;
-                  code = subst (Kept (value k)) h (group-code terms (value k) at end (fieldsOf (drop end s)));
+                  code = d .named;
                   stands = ap byteOf e₁;
                   stake = λ i. stakeAs (e₁ i) (e₂ i) (e₃ i);
                   later = omega (arith, d .later);

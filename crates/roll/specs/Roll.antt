@@ -1,16 +1,19 @@
 -- The roll that a verdict comes to: the customers in columns, and their codes in the book.
 -- Assumes nothing.
-use Prim.Native.Nat.{ℕ, _+_, _-_, _≤_, _<_}
-use mathlib.Core.List.{List, [], _∷_, _++_, map}
+use Prim.Native.Nat.{ℕ, zero, suc, _+_, _-_, _≤_, _<_}
+use Prim.Native.Char.{code}
+use mathlib.Core.List.{List, [], map}
 use mathlib.Core.Bool.{cond}
 use mathlib.Core.Path.{_≡_}
-use lib.ListN.{length, getD, take, drop}
-use lib.Dec.{leb, ltb}
+use lib.ListN.{length, getD, set, take, drop}
+use lib.Dec.{leb, ltb, eqb}
 use Rattle.rules.specs.declared.Terms.{Terms}
 use Rattle.rules.specs.declared.Standing.{Standing}
 use Rattle.rules.specs.declared.Standing.the-variants.{Pending, Tier1, Tier2, Tier3, Neither}
+use Rattle.rules.specs.Refusal as refusal
+use Rattle.rules.specs.Limits.{longestBook, mostCustomers}
 use Rattle.rules.specs.Fields.{Field, fieldsOf}
-use Rattle.rules.specs.Book.{Customer, InGroup, Nobody, Reading, Verdict, Refused, Accepted, Coded, walk, judge}
+use Rattle.rules.specs.Book.{Customer, InGroup, Nobody, Reading, Verdict, Refused, Accepted, afterC, walk}
 use Rattle.rules.specs.Standing.{standing}
 use Rattle.rules.specs.Cascade.{offeredBy, pendingBy}
 use Rattle.laws.specs.Keys.{keyOf}
@@ -20,10 +23,18 @@ use Rattle.codes.specs.declared.Code.{Code}
 use Rattle.codes.specs.declared.Code.the-variants.{Key, Malformed}
 use Rattle.codes.specs.Codes.{codeOf, givenIn}
 use Rattle.fields.specs.declared.Refusal.{Refusal}
+use Rattle.fields.specs.declared.Found.{Found}
+use Rattle.fields.specs.declared.Found.the-variants.{Short}
+use Rattle.fields.specs.declared.Found.the-variants.{Field as FieldAt}
+use Rattle.fields.specs.First.{firstAt}
+use Rattle.terms.specs.declared.TermsAt.{TermsAt}
+use Rattle.terms.specs.declared.TermsAt.the-variants.{Read as ReadTerms}
+use Rattle.terms.specs.declared.TermsAt.the-variants.{Refused as NoTerms}
+use Rattle.terms.specs.Terms.{termsOf}
 use Rattle.group.specs.declared.GroupAt.{GroupAt}
 use Rattle.group.specs.declared.GroupAt.the-variants.{Closed}
 use Rattle.group.specs.declared.GroupAt.the-variants.{Refused as NoGroup}
-use Rattle.fields.specs.Reading.{refusal}
+use Rattle.fields.specs.Reading.{refusedAt, noRefusal}
 use Rattle.group.specs.Group.{groupAt}
 use Rattle.roll.specs.declared.Roll.{Roll}
 use Rattle.roll.specs.declared.CodeAt.{CodeAt}
@@ -74,19 +85,38 @@ pub record Held (book : List ℕ) (terms : Terms) (cs : List Customer) (keys sta
 
 -- room for 256 customers
 pub record Room (keys starts standings stakes : List ℕ) : Type 0 where
-  pub for-keys : 256 ≤ length keys
-  pub for-starts : 256 ≤ length starts
-  pub for-standings : 256 ≤ length standings
-  pub for-stakes : 256 ≤ length stakes
+  pub for-keys : mostCustomers ≤ length keys
+  pub for-starts : mostCustomers ≤ length starts
+  pub for-standings : mostCustomers ≤ length standings
+  pub for-stakes : mostCustomers ≤ length stakes
 
 abbrev pub noRoll : ℕ → ℕ → Roll
-noRoll n place = record { refusal = refusal n place; count = 0 }
+noRoll n place = record { refusal = refusedAt n place; count = 0 }
+
+-- the roll of a book that ends with so many customers read, or its refusal there
+abbrev pub endedWith : Refusal → ℕ → Roll
+endedWith last count = cond (eqb (last .number) refusal.accepted) (record { refusal = last; count = count }) (noRoll (last .number) (last .place))
 
 -- what a verdict comes to: the refusal, or the customers in the columns
 abbrev pub Rolled : List ℕ → Verdict → List ℕ → List ℕ → List ℕ → List ℕ → Roll → Type 0
-Rolled book (Refused n place) keys starts standings stakes r = r .refusal ≡ refusal n place
+Rolled book (Refused n place) keys starts standings stakes r = r ≡ noRoll n place
 Rolled book (Accepted terms cs) keys starts standings stakes r =
-    (r .refusal ≡ refusal 0 0) × Held book terms cs keys starts standings stakes (r .count)
+    (r .refusal ≡ noRefusal) × Held book terms cs keys starts standings stakes (r .count)
+
+-- the four columns
+pub record Columns : Type 0 where
+  pub keys : List ℕ
+  pub starts : List ℕ
+  pub standings : List ℕ
+  pub stakes : List ℕ
+
+abbrev pub columns : List ℕ → List ℕ → List ℕ → List ℕ → Columns
+columns keys starts standings stakes = record { keys = keys; starts = starts; standings = standings; stakes = stakes }
+
+-- what a verdict comes to, and the columns that are left: those that the book fills
+pub record Left (book : List ℕ) (v : Verdict) (full : Columns) (keys starts standings stakes : List ℕ) (r : Roll) : Type 0 where
+  pub rolled : Rolled book v keys starts standings stakes r
+  pub filled : columns keys starts standings stakes ≡ full
 
 -- the customers from a place on, where none was read before
 abbrev pub verdictFrom : Terms → ℕ → List Field → Verdict
@@ -94,11 +124,11 @@ verdictFrom terms at fs = walk (Reading (InGroup terms [] Nobody)) 0 at fs
 
 -- 10, 5, 7
 abbrev pub newCode : ℕ → List ℕ → Code → CodeAt
-newCode at keys (Key k) = cond (givenIn keys k) (NoCode (refusal 7 at)) (NewKey k)
-newCode at keys Malformed = NoCode (refusal 5 at)
+newCode at keys (Key k) = cond (givenIn keys k) (NoCode (refusedAt refusal.givenBefore at)) (NewKey k)
+newCode at keys Malformed = NoCode (refusedAt refusal.malformed at)
 
 abbrev pub codeAt : ℕ → ℕ → List ℕ → List ℕ → CodeAt
-codeAt at count keys v = cond (leb 256 count) (NoCode (refusal 10 at)) (newCode at keys (codeOf v))
+codeAt at count keys v = cond (leb mostCustomers count) (NoCode (refusedAt refusal.tooMany at)) (newCode at keys (codeOf v))
 
 -- a customer with a new key, and its group
 abbrev pub customerOf : CodeAt → GroupAt → CustomerAt
@@ -110,8 +140,38 @@ customerOf (NoCode r) g = NoCustomer r
 abbrev pub customerAt : List ℕ → Terms → List ℕ → ℕ → ℕ → ℕ → ℕ → CustomerAt
 customerAt s terms keys count at start end =
     let v = take (end - start) (drop start s) in
-    customerOf (codeAt at count (take count keys) v) (groupAt terms (groupFrom terms (Coded v) at end (fieldsOf (drop end s))))
+    customerOf (codeAt at count (take count keys) v) (groupAt terms (groupFrom terms (afterC v) at end (fieldsOf (drop end s))))
 
 -- 5, and 3 behind Z
 abbrev pub endAt : ℕ → ℕ → ℕ → ℕ → Refusal
-endAt at start end size = cond (ltb start end) (refusal 5 at) (cond (ltb end size) (refusal 3 end) (refusal 0 0))
+endAt at start end size = cond (ltb start end) (refusedAt refusal.malformed at) (cond (ltb end size) (refusedAt refusal.misplaced end) (noRefusal))
+
+-- One customer more, at index `count`: its key, where its code starts in the book, its standing's byte and its stake
+abbrev pub stored : Columns → ℕ → ℕ → ℕ → ℕ → ℕ → Columns
+stored c count key start standing stake =
+    columns (set (c .keys) count key) (set (c .starts) count start) (set (c .standings) count standing) (set (c .stakes) count stake)
+
+abbrev pub onC : Found → Columns → (ℕ → ℕ → Columns) → Columns
+onC Short c next = c
+onC (FieldAt t start end) c next = cond (eqb t (code "C")) (next start end) c
+
+abbrev pub onNew : CustomerAt → Columns → (ℕ → ℕ → ℕ → ℕ → Columns) → Columns
+onNew (NewCustomer key place standing stake) c next = next key place standing stake
+onNew (NoCustomer r) c next = c
+
+-- The columns filled customer by customer from a place on, up to the first field that is no new customer's C or whose group is refused; at
+-- most so many more. What stands behind the customers is as it was
+abbrev pub filledFrom : ℕ → List ℕ → Terms → ℕ → ℕ → Columns → Columns
+filledFrom zero s terms at count c = c
+filledFrom (suc most) s terms at count c =
+    onC (firstAt at (fieldsOf (drop at s))) c λ start end.
+    onNew (customerAt s terms (c .keys) count at start end) c λ key place standing stake.
+    filledFrom most s terms place (count + 1) (stored c count key start standing stake)
+
+abbrev pub filledAfter : List ℕ → TermsAt → Columns → Columns
+filledAfter s (ReadTerms terms next) c = filledFrom mostCustomers s terms next 0 c
+filledAfter s (NoTerms r) c = c
+
+-- the columns after a book was read into them: none is touched where it is too long or its terms are refused
+unfoldable pub filledBy : List ℕ → Columns → Columns
+filledBy s c = cond (ltb longestBook (length s)) c (filledAfter s (termsOf s) c)

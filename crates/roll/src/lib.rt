@@ -5,17 +5,20 @@ use fields::Refusal;
 use group::GroupAt;
 use rules::Standing;
 use rules::Terms;
+use rules::refusal;
+use rules::tag;
 use terms::TermsAt;
 ghost use mathlib.Core.Path.{_≡_};
 ghost use mathlib.Core.List.{List};
 ghost use Prim.Native.Nat.{ℕ, _-_, _≤_};
 ghost use lib.ListN.{length, take, drop};
+ghost use Rattle.rules.specs.Limits.{mostCustomers};
 ghost use Rattle.rules.specs.Fields.{fieldsOf};
 ghost use Rattle.codes.specs.Codes.{Marked};
 ghost use Rattle.fields.specs.Ranges.{Short};
 ghost use Rattle.terms.specs.Ranges.{Sound};
 ghost use Rattle.rules.specs.Book.{judge};
-ghost use Rattle.roll.specs.Roll.{noRoll, byteOf, stakeAs, codeAt, customerAt, endAt, verdictFrom, Room, Rolled};
+ghost use Rattle.roll.specs.Roll.{noRoll, byteOf, stakeAs, codeAt, customerAt, endAt, endedWith, verdictFrom, Room, columns, Left, filledFrom, filledBy};
 
 // Either a refusal, or number 0 and how many customers the columns hold.
 pub struct Roll {
@@ -89,7 +92,7 @@ fn code_at(
 {
     if rules::MOST_CUSTOMERS <= count {
         return CodeAt::Refused(Refusal {
-            number: 10,
+            number: refusal::TOO_MANY,
             place: at,
         });
     }
@@ -97,14 +100,14 @@ fn code_at(
         Code::Key(key) => {
             if codes::known(keys, marks, count, key) {
                 return CodeAt::Refused(Refusal {
-                    number: 7,
+                    number: refusal::GIVEN_BEFORE,
                     place: at,
                 });
             }
             CodeAt::Key(key)
         }
         Code::Malformed => CodeAt::Refused(Refusal {
-            number: 5,
+            number: refusal::MALFORMED,
             place: at,
         }),
     }
@@ -149,20 +152,33 @@ fn end_at(book: &[u8], at: usize, start: usize, end: usize) -> Refusal
 {
     if start < end {
         return Refusal {
-            number: 5,
+            number: refusal::MALFORMED,
             place: at,
         };
     }
     if end < book.len() {
         return Refusal {
-            number: 3,
+            number: refusal::MISPLACED,
             place: end,
         };
     }
     Refusal {
-        number: 0,
+        number: refusal::ACCEPTED,
         place: 0,
     }
+}
+
+// The roll of a book that ends with so many customers read, or its refusal there.
+fn ended(last: Refusal, count: usize) -> Roll
+    ensures { λ r. ⌜ r ≡ endedWith last count ⌝ }
+{
+    if last.number == refusal::ACCEPTED {
+        return Roll {
+            refusal: last,
+            count,
+        };
+    }
+    refused(last.number, last.place)
 }
 
 // The customers of a book under its terms, from a place on, into the columns.
@@ -176,24 +192,21 @@ fn read_customers(
     stakes: &mut [u32],
 ) -> Roll
     requires { ⌜ Short (now book) ⌝ ∗ ⌜ Sound terms ⌝ ∗ ⌜ Room (now keys) (now starts) (now standings) (now stakes) ⌝ }
-    ensures { λ r. ⌜ Rolled (now (book .entry)) (verdictFrom terms first (fieldsOf (drop first (now (book .entry))))) (now (keys .exit)) (now (starts .exit)) (now (standings .exit)) (now (stakes .exit)) r ⌝ }
+    ensures { λ r. ⌜ Left (now (book .entry)) (verdictFrom terms first (fieldsOf (drop first (now (book .entry))))) (filledFrom mostCustomers (now (book .entry)) terms first 0 (columns (now (keys .entry)) (now (starts .entry)) (now (standings .entry)) (now (stakes .entry)))) (now (keys .exit)) (now (starts .exit)) (now (standings .exit)) (now (stakes .exit)) r ⌝ }
 {
     let mut marks = [0u8; 4096];
     let mut count: usize = 0;
     let mut at = first;
     loop {
         let Found::Field { tag, start, end } = fields::field_at(book, at) else {
-            return refused(2, at);
+            return refused(refusal::CUT_SHORT, at);
         };
-        if tag == b'Z' {
+        if tag == tag::Z {
             let last = end_at(book, at, start, end);
-            return Roll {
-                refusal: last,
-                count,
-            };
+            return ended(last, count);
         }
-        if tag != b'C' {
-            return refused(3, at);
+        if tag != tag::C {
+            return refused(refusal::MISPLACED, at);
         }
         match customer_at(book, terms, keys, &marks, count, at, start, end) {
             CustomerAt::New {
@@ -225,10 +238,10 @@ pub fn read_roll(
     stakes: &mut [u32],
 ) -> Roll
     requires { ⌜ Room (now keys) (now starts) (now standings) (now stakes) ⌝ }
-    ensures { λ r. ⌜ Rolled (now (book .entry)) (judge (now (book .entry))) (now (keys .exit)) (now (starts .exit)) (now (standings .exit)) (now (stakes .exit)) r ⌝ }
+    ensures { λ r. ⌜ Left (now (book .entry)) (judge (now (book .entry))) (filledBy (now (book .entry)) (columns (now (keys .entry)) (now (starts .entry)) (now (standings .entry)) (now (stakes .entry)))) (now (keys .exit)) (now (starts .exit)) (now (standings .exit)) (now (stakes .exit)) r ⌝ }
 {
     if rules::LONGEST_BOOK < book.len() {
-        return refused(1, 0);
+        return refused(refusal::TOO_LONG, 0);
     }
     match terms::read_terms(book) {
         TermsAt::Read { terms, next } => {

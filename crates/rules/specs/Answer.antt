@@ -5,6 +5,7 @@ use mathlib.Core.List.{List, [], _++_}
 use mathlib.Core.Bool.{cond}
 use lib.ListN.{length, drop}
 use lib.Dec.{ltb}
+use Rattle.rules.specs.Refusal as refusal
 use Rattle.rules.specs.Book.{Verdict, Refused, Accepted, judge}
 use Rattle.rules.specs.Cascade.{outcome}
 use Rattle.rules.specs.Report.{report}
@@ -21,7 +22,7 @@ refused n place = record { number = n; place = place; length = 0; report = [] }
 
 -- "Accepted: 0, place 0, the report's length"; "11: the report is longer than the lent buffer; the length needed". "Number 11 is last."
 abbrev pub fitted : ℕ → List ℕ → Answer
-fitted room r = cond (ltb room (length r)) (refused 11 (length r)) (record { number = 0; place = 0; length = length r; report = r })
+fitted room r = cond (ltb room (length r)) (refused refusal.noRoom (length r)) (record { number = refusal.accepted; place = 0; length = length r; report = r })
 
 abbrev pub answerOf : ℕ → Verdict → Answer
 answerOf room (Refused n place) = refused n place

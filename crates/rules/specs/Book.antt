@@ -5,9 +5,6 @@ use mathlib.Core.List.{List, [], _∷_, _++_}
 use mathlib.Core.Bool.{Bool, true, false, cond, not, _||_}
 use lib.ListN.{length}
 use lib.Dec.{leb, ltb, eqb}
-use Rattle.rules.specs.declared.Fen.{Fen}
-use Rattle.rules.specs.declared.Lots.{Lots}
-use Rattle.rules.specs.declared.Rate.{Rate}
 use Rattle.rules.specs.declared.Terms.{Terms}
 use Rattle.rules.specs.declared.Position.{Position}
 use Rattle.rules.specs.declared.Trade.{Trade}
@@ -17,6 +14,8 @@ use Rattle.rules.specs.declared.Opening.{Opening}
 use Rattle.rules.specs.declared.Opening.the-variants.{Made}
 use Rattle.rules.specs.declared.Opening.the-variants.{Comma as CommaIn}
 use Rattle.rules.specs.declared.Opening.the-variants.{Malformed as NoTrade}
+use Rattle.rules.specs.Refusal as refusal
+use Rattle.rules.specs.Limits.{longestBook, mostCustomers}
 use Rattle.rules.specs.Text.{is, bytes}
 use Rattle.rules.specs.Figures.{fen, lots, rate, priceForm, rateForm, heldForm, figureOf, openingOf}
 use Rattle.rules.specs.Codes.{isCode, same}
@@ -66,7 +65,7 @@ module _ {A : Type 0} where
   -- 3: "the tag doesn't belong there"
   abbrev pub must : Bool → Step A → Step A
   must true next = next
-  must false next = Stop 3
+  must false next = Stop refusal.misplaced
 
   -- a refusal where the test holds
   abbrev pub refuse : ℕ → Bool → Step A → Step A
@@ -76,52 +75,85 @@ module _ {A : Type 0} where
   -- 4 and 5 for a figure
   abbrev pub figure : Figure → (ℕ → Step A) → Step A
   figure (Value n) next = next n
-  figure Comma next = Stop 4
-  figure Malformed next = Stop 5
+  figure Comma next = Stop refusal.comma
+  figure Malformed next = Stop refusal.malformed
 
   -- 4 and 5 for a trade
   abbrev pub trade : Opening → (Trade → Step A) → Step A
   trade (Made t) next = next t
-  trade CommaIn next = Stop 4
-  trade NoTrade next = Stop 5
+  trade CommaIn next = Stop refusal.comma
+  trade NoTrade next = Stop refusal.malformed
 
   -- "D: one byte: D locked at the lower limit, U locked at the upper"
   abbrev pub lock : List ℕ → (Bool → Step A) → Step A
-  lock v next = cond (same v (bytes "D")) (next true) (cond (same v (bytes "U")) (next false) (Stop 5))
+  lock v next = cond (same v (bytes "D")) (next true) (cond (same v (bytes "U")) (next false) (Stop refusal.malformed))
 
--- "Customers: C, K, H, Q, then opening trades, each B or A": a customer's group as far as it is read
+-- "Customers: C, K, H, Q, then opening trades, each B or A": which of a customer's fields is due
+pub data Part : Type 0 where
+  DueK : Part
+  DueH : Part
+  DueQ : Part
+  DueTrade : Part
+
+-- a customer's group: nobody's yet, or which part is due and the customer as far as it is read, with no lots and no trades that are not read
 pub data Group : Type 0 where
   Nobody : Group
-  Coded : List ℕ → Group
-  Long : List ℕ → Lots → Group
-  Short : List ℕ → Lots → Lots → Group
-  Trading : Customer → Group
+  Open : Part → Customer → Group
 
--- 8 at Q, and then no trade yet
-abbrev pub holding : Terms → List ℕ → Position → Step Group
-holding terms code p = refuse 8 (overdrawn terms p) (Next (Trading (record { code = code; position = p; trades = [] })))
+abbrev pub begun : List ℕ → Customer
+begun code = record { code = code; position = record { long = lots 0; short = lots 0; unfilled = lots 0 }; trades = [] }
+
+-- after its C
+abbrev pub afterC : List ℕ → Group
+afterC code = Open DueK (begun code)
+
+abbrev pub held : Customer → Position → Customer
+held c p = record { code = c .code; position = p; trades = c .trades }
 
 abbrev pub traded : Customer → Trade → Customer
 traded c t = record { code = c .code; position = c .position; trades = t ∷ c .trades }
 
 -- K, H, Q and the trades: they depend on the terms and on the customer's own fields alone
 unfoldable pub within : Terms → Group → ℕ → List ℕ → Step Group
-within terms Nobody t v = Stop 3
-within terms (Coded code) t v = must (is "K" t) (figure (figureOf heldForm v) λ k. Next (Long code (lots k)))
-within terms (Long code k) t v = must (is "H" t) (figure (figureOf heldForm v) λ h. Next (Short code k (lots h)))
-within terms (Short code k h) t v =
-    must (is "Q" t) (figure (figureOf heldForm v) λ q. holding terms code (record { long = k; short = h; unfilled = lots q }))
-within terms (Trading c) t v =
-    must (is "B" t || is "A" t) (trade (openingOf (is "B" t) v) λ x. Next (Trading (traded c x)))
+within terms Nobody t v = Stop refusal.misplaced
+within terms (Open DueK c) t v =
+    must (is "K" t) (figure (figureOf heldForm v) λ k.
+    Next (Open DueH (held c (record { long = lots k; short = c .position .short; unfilled = c .position .unfilled }))))
+within terms (Open DueH c) t v =
+    must (is "H" t) (figure (figureOf heldForm v) λ h.
+    Next (Open DueQ (held c (record { long = c .position .long; short = lots h; unfilled = c .position .unfilled }))))
+within terms (Open DueQ c) t v =
+    must (is "Q" t) (figure (figureOf heldForm v) λ q.
+    let p : Position = record { long = c .position .long; short = c .position .short; unfilled = lots q } in
+    refuse refusal.overdrawn (overdrawn terms p) (Next (Open DueTrade (held c p))))
+within terms (Open DueTrade c) t v = must (is "B" t || is "A" t) (trade (openingOf (is "B" t) v) λ x. Next (Open DueTrade (traded c x)))
 
--- "Terms, each once: D, S, L, U, V", then the groups: what is due, with what was read before
+-- a group may end once its Q is read
+abbrev pub mayEnd : Part → Bool
+mayEnd DueK = false
+mayEnd DueH = false
+mayEnd DueQ = false
+mayEnd DueTrade = true
+
+-- "Terms, each once: D, S, L, U, V": which of them is due
+pub data Term : Type 0 where
+  DueD : Term
+  DueS : Term
+  DueL : Term
+  DueU : Term
+  DueV : Term
+
+-- what is due: a term, with the terms as far as they are read, or a field of the groups
 pub data Due : Type 0 where
-  DueD : Due
-  DueS : Bool → Due
-  DueL : Bool → Fen → Due
-  DueU : Bool → Fen → Rate → Due
-  DueV : Bool → Fen → Rate → Rate → Due
+  AtTerm : Term → Terms → Due
   InGroup : Terms → List Customer → Group → Due
+
+-- no term is read yet
+abbrev pub noTerms : Terms
+noTerms = record { down = false; settlement = fen 0; loss = rate 0; edge1 = rate 0; edge2 = rate 0 }
+
+abbrev pub atFront : Due
+atFront = AtTerm DueD noTerms
 
 -- the book is being read, or "Z" has ended it
 pub data Stage : Type 0 where
@@ -131,34 +163,49 @@ pub data Stage : Type 0 where
 -- 3 and 9 at C or Z: the customers, with the one whose group ends here
 abbrev pub closed : List Customer → Group → (List Customer → Step Stage) → Step Stage
 closed cs Nobody next = next cs
-closed cs (Coded code) next = Stop 3
-closed cs (Long code k) next = Stop 3
-closed cs (Short code k h) next = Stop 3
-closed cs (Trading c) next = refuse 9 (uncovered c) (next (cs ++ c ∷ []))
+closed cs (Open part c) next = must (mayEnd part) (refuse refusal.uncovered (uncovered c) (next (cs ++ c ∷ [])))
 
 -- "10: a C after 256 customers", then 5, then 7
 abbrev pub opens : Terms → List ℕ → List Customer → Step Stage
 opens terms v cs =
-    refuse 10 (leb 256 (length cs)) (refuse 5 (not (isCode v)) (refuse 7 (given v cs) (Next (Reading (InGroup terms cs (Coded v))))))
+    refuse refusal.tooMany (leb mostCustomers (length cs))
+    (refuse refusal.malformed (not (isCode v))
+    (refuse refusal.givenBefore (given v cs) (Next (Reading (InGroup terms cs (afterC v))))))
 
 -- "Z, length 0 (another length is 5)"
 abbrev pub ends : Terms → List ℕ → List Customer → Step Stage
-ends terms v cs = refuse 5 (ltb 0 (length v)) (Next (Ended terms cs))
+ends terms v cs = refuse refusal.malformed (ltb 0 (length v)) (Next (Ended terms cs))
 
 abbrev pub goesOn : Terms → List Customer → Step Group → Step Stage
 goesOn terms cs (Stop n) = Stop n
 goesOn terms cs (Next g) = Next (Reading (InGroup terms cs g))
 
+-- the terms with one more
+abbrev pub locked : Terms → Bool → Terms
+locked ts d = record { down = d; settlement = ts .settlement; loss = ts .loss; edge1 = ts .edge1; edge2 = ts .edge2 }
+
+abbrev pub settled : Terms → ℕ → Terms
+settled ts s = record { down = ts .down; settlement = fen s; loss = ts .loss; edge1 = ts .edge1; edge2 = ts .edge2 }
+
+abbrev pub withLoss : Terms → ℕ → Terms
+withLoss ts l = record { down = ts .down; settlement = ts .settlement; loss = rate l; edge1 = ts .edge1; edge2 = ts .edge2 }
+
+abbrev pub withEdge1 : Terms → ℕ → Terms
+withEdge1 ts u = record { down = ts .down; settlement = ts .settlement; loss = ts .loss; edge1 = rate u; edge2 = ts .edge2 }
+
+abbrev pub withEdge2 : Terms → ℕ → Terms
+withEdge2 ts v = record { down = ts .down; settlement = ts .settlement; loss = ts .loss; edge1 = ts .edge1; edge2 = rate v }
+
 -- "For one field: 2, 3, then (at C or Z after a customer) 9 for that customer, then 10, 4, 5, then 6 at V, 7 at C, 8 at Q."
 unfoldable pub step : Due → ℕ → List ℕ → Step Stage
-step DueD t v = must (is "D" t) (lock v λ d. Next (Reading (DueS d)))
-step (DueS d) t v = must (is "S" t) (figure (figureOf priceForm v) λ s. Next (Reading (DueL d (fen s))))
-step (DueL d s) t v = must (is "L" t) (figure (figureOf rateForm v) λ l. Next (Reading (DueU d s (rate l))))
-step (DueU d s l) t v = must (is "U" t) (figure (figureOf rateForm v) λ u. Next (Reading (DueV d s l (rate u))))
+step (AtTerm DueD ts) t v = must (is "D" t) (lock v λ d. Next (Reading (AtTerm DueS (locked ts d))))
+step (AtTerm DueS ts) t v = must (is "S" t) (figure (figureOf priceForm v) λ s. Next (Reading (AtTerm DueL (settled ts s))))
+step (AtTerm DueL ts) t v = must (is "L" t) (figure (figureOf rateForm v) λ l. Next (Reading (AtTerm DueU (withLoss ts l))))
+step (AtTerm DueU ts) t v = must (is "U" t) (figure (figureOf rateForm v) λ u. Next (Reading (AtTerm DueV (withEdge1 ts u))))
 -- 6: "U is not greater than V"
-step (DueV d s l u) t v =
-    must (is "V" t) (figure (figureOf rateForm v) λ x. refuse 6 (leb (u .0) x)
-    (Next (Reading (InGroup (record { down = d; settlement = s; loss = l; edge1 = u; edge2 = rate x }) [] Nobody))))
+step (AtTerm DueV ts) t v =
+    must (is "V" t) (figure (figureOf rateForm v) λ x.
+    refuse refusal.edges (leb (ts .edge1 .0) x) (Next (Reading (InGroup (withEdge2 ts x) [] Nobody))))
 step (InGroup terms cs g) t v =
     cond (is "C" t) (closed cs g (opens terms v))
     (cond (is "Z" t) (closed cs g (ends terms v))
@@ -170,19 +217,19 @@ pub data Verdict : Type 0 where
 
 -- The place of a refusal is the field's tag; of 9, "its C tag", the last one.
 abbrev pub placed : ℕ → ℕ → Step Stage → (Stage → Verdict) → Verdict
-placed lastC at (Stop n) next = Refused n (cond (eqb n 9) lastC at)
+placed lastC at (Stop n) next = Refused n (cond (eqb n refusal.uncovered) lastC at)
 placed lastC at (Next stage) next = next stage
 
 -- "Then fields are judged from the front, and the first that breaks a rule decides." The fields that begin at a place:
 -- "2: fewer than 3 bytes are left where a field must begin, or its value runs past the end"; "3: .. or bytes follow Z".
 abbrev pub walk : Stage → ℕ → ℕ → List Field → Verdict
 walk (Ended terms cs) lastC at [] = Accepted terms cs
-walk (Ended terms cs) lastC at (f ∷ fs) = Refused 3 at
-walk (Reading due) lastC at [] = Refused 2 at
-walk (Reading due) lastC at (Cut ∷ fs) = Refused 2 at
+walk (Ended terms cs) lastC at (f ∷ fs) = Refused refusal.misplaced at
+walk (Reading due) lastC at [] = Refused refusal.cutShort at
+walk (Reading due) lastC at (Cut ∷ fs) = Refused refusal.cutShort at
 walk (Reading due) lastC at (Whole t v ∷ fs) =
     placed lastC at (step due t v) λ stage. walk stage (cond (is "C" t) at lastC) (at + 3 + length v) fs
 
 -- "1: the book has more than 60,000 bytes", and "Number 1 comes first."
 unfoldable pub judge : List ℕ → Verdict
-judge s = cond (ltb 60_000 (length s)) (Refused 1 0) (walk (Reading DueD) 0 0 (fieldsOf s))
+judge s = cond (ltb longestBook (length s)) (Refused refusal.tooLong 0) (walk (Reading atFront) 0 0 (fieldsOf s))

@@ -6,6 +6,7 @@ use mathlib.Core.List.{List, [], _∷_}
 use mathlib.Core.Bool.{Bool, true, false, _&&_, _||_}
 use lib.ListN.{length}
 use lib.Dec.{leb, ltb, eqb}
+use Rattle.rules.specs.Limits.{longestCode}
 use Rattle.rules.specs.Figures.{isDigit}
 
 -- "C: customer code: 1 to 12 bytes, each 0-9 or A-Z"
@@ -17,7 +18,7 @@ allOfCode [] = true
 allOfCode (x ∷ xs) = (isDigit x || isLetter x) && allOfCode xs
 
 unfoldable pub isCode : List ℕ → Bool
-isCode v = leb 1 (length v) && leb (length v) 12 && allOfCode v
+isCode v = leb 1 (length v) && leb (length v) longestCode && allOfCode v
 
 abbrev pub same : List ℕ → List ℕ → Bool
 same [] [] = true

@@ -1,4 +1,4 @@
--- Document 01 as definitions, a file for each of its parts, in its order; then its cases, computed.
+-- Document 01 as definitions, a file for each of its parts, in its order.
 pub mod Text
 pub mod Refusal
 pub mod Limits
@@ -11,7 +11,3 @@ pub mod Division
 pub mod Cascade
 pub mod Report
 pub mod Answer
-pub mod Rearranged
-pub mod Tables
-pub mod Cases
-pub mod Refusals

@@ -1,6 +1,10 @@
-// The types of the paper: what document 01 names, and its limits. The rules themselves are definitions, in specs/.
+// The types of the paper: what document 01 names, and its limits; and "the smaller of", which it says of lots twice. The rules
+// themselves are definitions, in specs/.
 pub mod refusal;
 pub mod tag;
+
+ghost use mathlib.Core.Path.{_≡_};
+ghost use Prim.Native.Nat.{min};
 
 // A price. "Prices are in fen, positions in lots and rates in thousandths of a percent": three types, so that an edge
 // cannot be handed in as a price.
@@ -70,3 +74,9 @@ pub const LONGEST_BOOK: usize = 60_000;
 pub const LONGEST_CODE: usize = 12;
 
 pub const MOST_CUSTOMERS: usize = 256;
+
+pub fn lesser(a: u64, b: u64) -> u64
+    ensures { λ r. ⌜ r ≡ min a b ⌝ }
+{
+    if a < b { a } else { b }
+}

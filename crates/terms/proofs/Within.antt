@@ -1,17 +1,19 @@
 -- Terms that were read are in the ranges of their forms.
 -- Assumes nothing.
+use Prim.Native.Char.{code}
 use Prim.Native.Nat.{ℕ, _≤_}
 use mathlib.Core.List.{List}
 use mathlib.Core.Bool.{Bool, true, false, cond}
 use lib.ListN.{drop}
 use lib.Dec.{leb}
 use Rattle.rules.specs.declared.Form.{Form}
+use Rattle.rules.specs.Refusal as refusal
 use Rattle.rules.specs.Figures.{rateForm, priceForm, fen, rate}
 use Rattle.rules.specs.Fields.{fieldsOf}
 use Rattle.fields.specs.declared.FigureAt.{FigureAt}
 use Rattle.fields.specs.declared.FigureAt.the-variants.{Value}
 use Rattle.fields.specs.declared.FigureAt.the-variants.{Refused as NoFigure}
-use Rattle.fields.specs.Reading.{refusal, figureFrom}
+use Rattle.fields.specs.Reading.{refusedAt, figureFrom}
 use Rattle.fields.proofs.Within.{Most, figure-most}
 use Rattle.terms.specs.declared.LockAt.{LockAt}
 use Rattle.terms.specs.declared.LockAt.the-variants.{Locked}
@@ -33,14 +35,14 @@ module _ (s : List ℕ) where
 
   after-sound : (d : Bool) (at : ℕ) → SoundAt (afterLock s d at)
   after-sound d at =
-      thenSound priceForm (figureFrom at 83 priceForm (fieldsOf (drop at s))) _ (figure-most at 83 priceForm (fieldsOf (drop at s))) λ p atL hp.
-      thenSound rateForm (figureFrom atL 76 rateForm (fieldsOf (drop atL s))) _ (figure-most atL 76 rateForm (fieldsOf (drop atL s))) λ l atU hl.
-      thenSound rateForm (figureFrom atU 85 rateForm (fieldsOf (drop atU s))) _ (figure-most atU 85 rateForm (fieldsOf (drop atU s))) λ u atV hu.
-      thenSound rateForm (figureFrom atV 86 rateForm (fieldsOf (drop atV s))) _ (figure-most atV 86 rateForm (fieldsOf (drop atV s))) λ x e hx.
+      thenSound priceForm (figureFrom at (code "S") priceForm (fieldsOf (drop at s))) _ (figure-most at (code "S") priceForm (fieldsOf (drop at s))) λ p atL hp.
+      thenSound rateForm (figureFrom atL (code "L") rateForm (fieldsOf (drop atL s))) _ (figure-most atL (code "L") rateForm (fieldsOf (drop atL s))) λ l atU hl.
+      thenSound rateForm (figureFrom atU (code "U") rateForm (fieldsOf (drop atU s))) _ (figure-most atU (code "U") rateForm (fieldsOf (drop atU s))) λ u atV hu.
+      thenSound rateForm (figureFrom atV (code "V") rateForm (fieldsOf (drop atV s))) _ (figure-most atV (code "V") rateForm (fieldsOf (drop atV s))) λ x e hx.
       go p l u x atV e hp hl hu hx (leb u x)
     where
       go : (p l u x atV e : ℕ) → p ≤ 9999999 → l ≤ 99999 → u ≤ 99999 → x ≤ 99999 → (b : Bool) →
-          SoundAt (cond b (NoTerms (refusal 6 atV)) (ReadTerms (record { down = d; settlement = fen p; loss = rate l; edge1 = rate u; edge2 = rate x }) e))
+          SoundAt (cond b (NoTerms (refusedAt refusal.edges atV)) (ReadTerms (record { down = d; settlement = fen p; loss = rate l; edge1 = rate u; edge2 = rate x }) e))
       go p l u x atV e hp hl hu hx true = tt
       go p l u x atV e hp hl hu hx false = record { settlement = hp; loss = hl; edge1 = hu; edge2 = hx }
 

@@ -5,6 +5,8 @@ use fields::Refusal;
 use rules::Fen;
 use rules::Rate;
 use rules::Terms;
+use rules::refusal;
+use rules::tag;
 ghost use mathlib.Core.Path.{_≡_};
 ghost use Rattle.rules.specs.Fields.{fieldsOf};
 ghost use Rattle.terms.specs.Terms.{lockFrom, afterLock, afterLoss, termsOf};
@@ -31,13 +33,13 @@ fn lock_at(book: &[u8]) -> LockAt
     ensures { λ r. ⌜ r ≡ lockFrom (fieldsOf (now (book .entry))) ⌝ }
 {
     let Found::Field { tag, start, end } = fields::field_at(book, 0) else {
-        return no_lock(2);
+        return no_lock(refusal::CUT_SHORT);
     };
-    if tag != b'D' {
-        return no_lock(3);
+    if tag != tag::D {
+        return no_lock(refusal::MISPLACED);
     }
     if end != start + 1 {
-        return no_lock(5);
+        return no_lock(refusal::MALFORMED);
     }
     if book[start] == b'D' {
         return LockAt::Locked {
@@ -51,7 +53,7 @@ fn lock_at(book: &[u8]) -> LockAt
             next: end,
         };
     }
-    no_lock(5)
+    no_lock(refusal::MALFORMED)
 }
 
 // The terms of a book, and the place after them.
@@ -68,7 +70,7 @@ pub fn read_terms(book: &[u8]) -> TermsAt
 fn terms_after(book: &[u8], down: bool, at: usize) -> TermsAt
     ensures { λ r. ⌜ r ≡ afterLock (now (book .entry)) down at ⌝ }
 {
-    let s = fields::figure_at(book, at, b'S', figures::PRICE);
+    let s = fields::figure_at(book, at, tag::S, figures::PRICE);
     let FigureAt::Value {
         number: price,
         next: at_l,
@@ -76,7 +78,7 @@ fn terms_after(book: &[u8], down: bool, at: usize) -> TermsAt
     else {
         return TermsAt::Refused(fields::refusal_in(s));
     };
-    let l = fields::figure_at(book, at_l, b'L', figures::RATE);
+    let l = fields::figure_at(book, at_l, tag::L, figures::RATE);
     let FigureAt::Value {
         number: loss,
         next: at_u,
@@ -91,7 +93,7 @@ fn terms_after(book: &[u8], down: bool, at: usize) -> TermsAt
 fn edges_after(book: &[u8], down: bool, settlement: Fen, loss: Rate, at: usize) -> TermsAt
     ensures { λ r. ⌜ r ≡ afterLoss (now (book .entry)) down settlement loss at ⌝ }
 {
-    let u = fields::figure_at(book, at, b'U', figures::RATE);
+    let u = fields::figure_at(book, at, tag::U, figures::RATE);
     let FigureAt::Value {
         number: edge1,
         next: at_v,
@@ -99,7 +101,7 @@ fn edges_after(book: &[u8], down: bool, settlement: Fen, loss: Rate, at: usize) 
     else {
         return TermsAt::Refused(fields::refusal_in(u));
     };
-    let v = fields::figure_at(book, at_v, b'V', figures::RATE);
+    let v = fields::figure_at(book, at_v, tag::V, figures::RATE);
     let FigureAt::Value {
         number: edge2,
         next,
@@ -109,7 +111,7 @@ fn edges_after(book: &[u8], down: bool, settlement: Fen, loss: Rate, at: usize) 
     };
     if edge1 <= edge2 {
         return TermsAt::Refused(Refusal {
-            number: 6,
+            number: refusal::EDGES,
             place: at_v,
         });
     }

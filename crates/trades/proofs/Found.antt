@@ -8,6 +8,7 @@ use lib.ListN.{drop}
 use lib.Dec.{eqb}
 use lib.IntN.{ℤ, pos, _+ℤ_}
 use Rattle.rules.specs.declared.Fen.{Fen}
+use Rattle.rules.specs.Refusal as refusal
 use Rattle.rules.specs.Text.{is}
 use Rattle.rules.specs.Figures.{openingOf}
 use Rattle.rules.specs.Fields.{Field, Whole, Cut, fieldsOf}
@@ -16,7 +17,7 @@ use Rattle.laws.specs.Gains.{lotsOn}
 use Rattle.fields.specs.declared.Found.the-variants.{Short}
 use Rattle.fields.specs.First.{firstAt}
 use Rattle.fields.specs.Laws.{Stands, Nothing, none, cut, nothing}
-use Rattle.fields.specs.Reading.{refusal}
+use Rattle.fields.specs.Reading.{refusedAt}
 use Rattle.fields.proofs.Due.{value, ends}
 use Rattle.trades.specs.declared.TradesAt.the-variants.{Closed, Refused}
 use Rattle.trades.specs.Trades.{opening, tradesFrom, partOf, oldestFrom}
@@ -28,10 +29,10 @@ oldest-zero long s (Cut ∷ fs) = refl
 oldest-zero long s (Whole t v ∷ fs) = refl
 
 module _ (at : ℕ) (fs : List Field) (h : firstAt at fs ≡ Short) where
-  pub trades-short : (long : Bool) (s : Fen) (sum : ℕ) (gain : ℤ) → tradesFrom long s at sum gain fs ≡ Refused (refusal 2 at)
+  pub trades-short : (long : Bool) (s : Fen) (sum : ℕ) (gain : ℤ) → tradesFrom long s at sum gain fs ≡ Refused (refusedAt refusal.cutShort at)
   trades-short long s sum gain = go fs (nothing at fs h)
     where
-      go : (l : List Field) → Nothing l → tradesFrom long s at sum gain l ≡ Refused (refusal 2 at)
+      go : (l : List Field) → Nothing l → tradesFrom long s at sum gain l ≡ Refused (refusedAt refusal.cutShort at)
       go [] none = refl
       go (Cut ∷ l) cut = refl
 
@@ -49,7 +50,7 @@ module _ (s : List ℕ) (at t start end : ℕ) (k : Stands s at t start end) whe
       (cond (is "B" t || is "A" t)
       (opening at (openingOf (is "B" t) (value s at t start end k)) λ x.
       tradesFrom long p end (sum + lotsOn long x) (gain +ℤ gainOf long p (x .price) (lotsOn long x)) (fieldsOf (drop end s)))
-      (Refused (refusal 3 at)))
+      (Refused (refusedAt refusal.misplaced at)))
   trades-found long p sum gain = rw (k .fields, ends s at t start end k)
 
   pub oldest-found : (long : Bool) (p : Fen) (left : ℕ) →

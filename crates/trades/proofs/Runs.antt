@@ -9,27 +9,26 @@ use mathlib.Core.Logic.{⊎-elim}
 use native.Mathlib.Nat.{eq-zero-or-pos}
 use native.Mathlib.Omega.{arith}
 use lib.ListN.{length}
-use lib.Dec.{eqb}
 use lib.IntN.{ℤ, pos, _+ℤ_, +ℤ-assoc, +ℤ-idr}
-use borrow.Author.Tests.{eq-eqb, ne-eqb}
+use borrow.Author.Tests.{ne-eqb}
 use Rattle.rules.specs.declared.Fen.{Fen}
 use Rattle.rules.specs.declared.Terms.{Terms}
 use Rattle.rules.specs.declared.Trade.{Trade}
 use Rattle.rules.specs.declared.Opening.{Opening}
 use Rattle.rules.specs.declared.Opening.the-variants.{Made, Comma, Malformed}
+use Rattle.rules.specs.Refusal as refusal
 use Rattle.rules.specs.Text.{is}
 use Rattle.rules.specs.Figures.{openingOf}
 use Rattle.rules.specs.Fields.{Field, Whole, Cut}
-use Rattle.rules.specs.Book.{Customer, opened, Step, Stop, Next, trade, Group, Trading, traded, within}
+use Rattle.rules.specs.Book.{Customer, opened, DueTrade, Open, traded, within}
 use Rattle.rules.specs.Standing.{gainOf}
 use Rattle.laws.specs.Figures.{opening-within}
 use Rattle.laws.specs.Gains.{lotsOn, allGain, oldestGain, gain-none, Priced, more}
-use Rattle.laws.specs.Groups.{Read, Bad, Good, closing, groupFrom, onward}
-use Rattle.fields.specs.declared.Refusal.{Refusal}
+use Rattle.laws.specs.Groups.{Bad, closing, groupFrom}
 use Rattle.trades.specs.declared.TradesAt.{TradesAt}
 use Rattle.trades.specs.declared.TradesAt.the-variants.{Closed, Refused}
-use Rattle.fields.specs.Reading.{refusal}
-use Rattle.trades.specs.Trades.{opening, tradesFrom, partOf, oldestFrom}
+use Rattle.fields.specs.Reading.{refusedAt}
+use Rattle.trades.specs.Trades.{opening, tradesFrom, oldestFrom}
 use Rattle.trades.proofs.Found.{oldest-zero}
 
 module _ (long : Bool) (s : Fen) (terms : Terms) (lastC : ℕ) where
@@ -38,7 +37,7 @@ module _ (long : Bool) (s : Fen) (terms : Terms) (lastC : ℕ) where
     pub customer : Customer
     pub back : List Field
     pub position : customer .position ≡ c .position
-    pub reads : groupFrom terms (Trading c) lastC at fs ≡ closing lastC place back (Trading customer)
+    pub reads : groupFrom terms (Open DueTrade c) lastC at fs ≡ closing lastC place back (Open DueTrade customer)
     pub lots : sum ≡ opened long (customer .trades)
     pub gained : gain ≡ allGain long s (customer .trades)
     pub priced : Priced (customer .trades)
@@ -47,7 +46,7 @@ module _ (long : Bool) (s : Fen) (terms : Terms) (lastC : ℕ) where
         oldestGain long s skip (customer .trades) ≡ oldestGain long s skip (c .trades) +ℤ oldestFrom long s (skip - opened long (c .trades)) fs
 
   abbrev pub Means : Customer → ℕ → List Field → TradesAt → Type 0
-  Means c at fs (Refused r) = groupFrom terms (Trading c) lastC at fs ≡ Bad (r .number) (r .place)
+  Means c at fs (Refused r) = groupFrom terms (Open DueTrade c) lastC at fs ≡ Bad (r .number) (r .place)
   Means c at fs (Closed place sum gain) = Ends c at fs place sum gain
 
   -- one more trade: what is left to skip goes on with the next field
@@ -107,7 +106,7 @@ module _ (long : Bool) (s : Fen) (terms : Terms) (lastC : ℕ) where
           Means c at (Whole t v ∷ fs)
           (cond p₁ (Closed at sum gain)
           (cond p₂ (opening at o λ x. tradesFrom long s (at + 3 + length v) (sum + lotsOn long x) (gain +ℤ gainOf long s (x .price) (lotsOn long x)) fs)
-          (Refused (refusal 3 at))))
+          (Refused (refusedAt refusal.misplaced at))))
       go true p₂ o a b e ih =
           record {
             customer = c;

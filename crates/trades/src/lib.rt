@@ -4,8 +4,11 @@ use fields::Refusal;
 use rules::Fen;
 use rules::Opening;
 use rules::Trade;
+use rules::lesser;
+use rules::refusal;
+use rules::tag;
 ghost use mathlib.Core.Path.{_≡_};
-ghost use Prim.Native.Nat.{_≤_, min};
+ghost use Prim.Native.Nat.{_≤_};
 ghost use mathlib.Core.Bool.{_||_};
 ghost use lib.IntN.{pos};
 ghost use lib.ListN.{drop};
@@ -45,13 +48,13 @@ fn no_trades(number: u64, place: usize) -> TradesAt
 fn is_trade(tag: u8) -> bool
     ensures { λ r. ⌜ r ≡ (is "B" tag || is "A" tag) ⌝ }
 {
-    tag == b'B' || tag == b'A'
+    tag == tag::B || tag == tag::A
 }
 
 fn is_closing(tag: u8) -> bool
     ensures { λ r. ⌜ r ≡ (is "C" tag || is "Z" tag) ⌝ }
 {
-    tag == b'C' || tag == b'Z'
+    tag == tag::C || tag == tag::Z
 }
 
 // All trades of a group from a place on: their lots on a side, and the gain of these.
@@ -64,7 +67,7 @@ pub fn read_trades(book: &[u8], settlement: Fen, long: bool, first: usize) -> Tr
     let mut gain: i64 = 0;
     loop {
         let Found::Field { tag, start, end } = fields::field_at(book, at) else {
-            return no_trades(2, at);
+            return no_trades(refusal::CUT_SHORT, at);
         };
         if is_closing(tag) {
             return TradesAt::Closed {
@@ -74,25 +77,19 @@ pub fn read_trades(book: &[u8], settlement: Fen, long: bool, first: usize) -> Tr
             };
         }
         if !is_trade(tag) {
-            return no_trades(3, at);
+            return no_trades(refusal::MISPLACED, at);
         }
-        match figures::read_opening(&book[start..end], tag == b'B') {
+        match figures::read_opening(&book[start..end], tag == tag::B) {
             Opening::Made(t) => {
                 let n = lots_on(long, t);
                 opened += n;
                 gain += gain::gain_of(long, settlement, t.price, n);
             }
-            Opening::Comma => return no_trades(4, at),
-            Opening::Malformed => return no_trades(5, at),
+            Opening::Comma => return no_trades(refusal::COMMA, at),
+            Opening::Malformed => return no_trades(refusal::MALFORMED, at),
         }
         at = end;
     }
-}
-
-fn least(a: u64, b: u64) -> u64
-    ensures { λ r. ⌜ r ≡ min a b ⌝ }
-{
-    if a < b { a } else { b }
 }
 
 // The gain of the oldest `skip` lots on a side, of the trades from a place on.
@@ -107,9 +104,9 @@ pub fn oldest_gain(book: &[u8], settlement: Fen, long: bool, first: usize, skip:
         let Found::Field { tag, start, end } = fields::field_at(book, at) else {
             return gain;
         };
-        match figures::read_opening(&book[start..end], tag == b'B') {
+        match figures::read_opening(&book[start..end], tag == tag::B) {
             Opening::Made(t) => {
-                let n = least(lots_on(long, t), left);
+                let n = lesser(lots_on(long, t), left);
                 gain += gain::gain_of(long, settlement, t.price, n);
                 left -= n;
             }

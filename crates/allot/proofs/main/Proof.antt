@@ -1,20 +1,14 @@
 -- `allot::main` meets its contract: what was read fits the buffer, and so does the listing.
 -- Assumes nothing.
-use Prim.Native.Nat.{ℕ, _≤_}
-use mathlib.Core.Path.{_≡_, refl, sym, ap, subst, _∙_}
+use Prim.Native.Nat.{_≤_}
+use mathlib.Core.Path.{_≡_, subst}
 use native.Mathlib.Omega.{arith}
-use lib.ListN.{length, take, length-take}
+use lib.ListN.{length, length-take}
 use Rattle.allot.specs.declared.Input.{Input}
 use Rattle.allot.specs.Input.{Within}
 use borrow.Author.Needs.{needs}
 use Rattle.allot.proofs.main.Statement.{statement}
 use Rattle.allot.proofs.main.Tie as tie
-use Rattle.allot.proofs.main.Reads as reads
-use Rattle.allot.proofs.main.Lts as lts
-use Rattle.allot.proofs.read_input.Reads as read-input-reads
-use Rattle.allotment.proofs.list.Reads as list-reads
-use Rattle.io.proofs.write_all.Reads as write-all-reads
-use Rattle.os.proofs.fail.Reads as fail-reads
 
 -- what was read fits the buffer
 module _ (c : tie.After-n) where

@@ -35,9 +35,9 @@ wide k =
     record { for-keys = omega (arith, p .for-keys); for-starts = omega (arith, p .for-starts); for-standings = omega (arith, p .for-standings); for-stakes = omega (arith, p .for-stakes) }
 
 accepted : (e : tie.Else1) → let r = rolled (e .before) in
-    Accepts (start r .args .book .now) (keys r) (starts r) (standings r) (stakes r) (r .read-roll .result) (r .read-roll .ensures)
+    Accepts (start r .args .book .now) (keys r) (starts r) (standings r) (stakes r) (r .read-roll .result) (r .read-roll .ensures .rolled)
 accepted e = let r = rolled (e .before) in
-    accepts (start r .args .book .now) (keys r) (starts r) (standings r) (stakes r) (r .read-roll .result) (r .read-roll .ensures) (e .if1 .left)
+    accepts (start r .args .book .now) (keys r) (starts r) (standings r) (stakes r) (r .read-roll .result) (r .read-roll .ensures .rolled) (e .if1 .left)
 
 read-roll-requires : tie.Need-read-roll-requires
 read-roll-requires c κs = search needs
@@ -55,10 +55,10 @@ same-length-4 : tie.Need-same-length-4
 same-length-4 c = search needs
 
 returns : tie.Need-returns
-returns c = let r = rolled (c .before) in refuses (start r .args .book .now) (keys r) (starts r) (standings r) (stakes r) (r .read-roll .result) (r .read-roll .ensures) _ refl (c .if1 .taken)
+returns c = let r = rolled (c .before) in refuses (start r .args .book .now) (keys r) (starts r) (standings r) (stakes r) (r .read-roll .result) (r .read-roll .ensures .rolled) _ refl (c .if1 .taken)
 
 close-requires : tie.Need-close-requires
-close-requires c κs = let e = c .before .before .before in let r = rolled (e .before) in steady (start r .args .book .now) (keys r) (starts r) (standings r) (stakes r) (r .read-roll .result) (r .read-roll .ensures) (accepted e) (wide (e .before))
+close-requires c κs = let e = c .before .before .before in let r = rolled (e .before) in steady (start r .args .book .now) (keys r) (starts r) (standings r) (stakes r) (r .read-roll .result) (r .read-roll .ensures .rolled) (accepted e) (wide (e .before))
 
 same-length-5 : tie.Need-same-length-5
 same-length-5 c = search needs
@@ -77,7 +77,7 @@ returns-2 c =
     let d = c .before in
     let e = d .before .before .before .before in
     let r = rolled (e .before) in
-    closes (start r .args .book .now) (keys r) (starts r) (standings r) (stakes r) (r .read-roll .result) (r .read-roll .ensures) (accepted e) (wide (e .before)) (d .close .result) (d .close .ensures) _ refl
+    closes (start r .args .book .now) (keys r) (starts r) (standings r) (stakes r) (r .read-roll .result) (r .read-roll .ensures .rolled) (accepted e) (wide (e .before)) (d .close .result) (d .close .ensures) _ refl
 
 pub work-out-spec : {M : Type 1} → statement M
 work-out-spec =

@@ -3,22 +3,14 @@
 use borrow.Author.Needs.{needs}
 use borrow.Author.Tests.{eq-eqb, ne-eqb}
 use Prim.Native.Nat.{ℕ, _≤_}
-use native.Mathlib.Omega.{arith}
-use mathlib.Core.Path.{_≡_, sym, _∙_}
+use mathlib.Core.Path.{sym, _∙_}
 use mathlib.Core.List.{List}
 use lib.ListN.{length, drop}
 use Rattle.rules.specs.Fields.{fieldsOf}
-use Rattle.fields.specs.declared.Found.the-variants.{Field}
-use Rattle.fields.specs.First.{firstAt}
 use Rattle.fields.specs.Laws.{Stands, stands}
 use Rattle.fields.proofs.Due.{figure-short, figure-found}
 use Rattle.fields.proofs.figure_at.Statement.{statement}
 use Rattle.fields.proofs.figure_at.Tie as tie
-use Rattle.fields.proofs.figure_at.Reads as reads
-use Rattle.fields.proofs.figure_at.Lts as lts
-use Rattle.fields.proofs.no_figure.Reads as no-figure-reads
-use Rattle.fields.proofs.field_at.Reads as field-at-reads
-use Rattle.figures.proofs.read_figure.Reads as read-figure-reads
 
 -- the field that was found
 module _ (c : tie.After-known-told) where

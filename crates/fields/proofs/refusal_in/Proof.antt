@@ -3,8 +3,6 @@
 use borrow.Author.Needs.{needs}
 use Rattle.fields.proofs.refusal_in.Statement.{statement}
 use Rattle.fields.proofs.refusal_in.Tie as tie
-use Rattle.fields.proofs.refusal_in.Reads as reads
-use Rattle.fields.proofs.refusal_in.Lts as lts
 
 enum-told : tie.Need-enum-told
 enum-told c = search needs

@@ -14,11 +14,6 @@ use Rattle.laws.specs.Exact.{of-int}
 use borrow.Author.Needs.{needs}
 use Rattle.group.proofs.closed_at.Statement.{statement}
 use Rattle.group.proofs.closed_at.Tie as tie
-use Rattle.group.proofs.closed_at.Reads as reads
-use Rattle.group.proofs.closed_at.Lts as lts
-use Rattle.group.proofs.offered_by.Reads as offered-by-reads
-use Rattle.group.proofs.pending_by.Reads as pending-by-reads
-use Rattle.gain.proofs.standing_of.Reads as standing-of-reads
 
 -- nobody offers, or has pending, more than a position holds
 module _ (p : Position) (long : p .long .0 ≤ 4000000) (short : p .short .0 ≤ 4000000) where

@@ -1,8 +1,8 @@
 -- `group::group_of` meets its contract: the sums over the trades say what the group comes to.
 -- Assumes nothing.
 use Prim.Native.Nat.{ℕ, _-_, _*_, _^_, _≤_, _<_}
-use mathlib.Core.Path.{_≡_, refl, sym, ap, ap₂, subst, _∙_}
-use mathlib.Core.List.{List, []}
+use mathlib.Core.Path.{_≡_, sym, ap, ap₂, _∙_}
+use mathlib.Core.List.{List}
 use mathlib.Core.Bool.{Bool}
 use native.Mathlib.Omega.{arith}
 use lib.ListN.{drop}
@@ -12,21 +12,14 @@ use mir.Val.{SFits, toZ, ofZ}
 use Rattle.rules.specs.Fields.{Field, fieldsOf}
 use Rattle.rules.specs.Book.{net, netLong}
 use Rattle.rules.specs.Standing.{standingAt}
-use Rattle.laws.specs.Exact.{small-fits, of-int, op-fits, of-op, both}
-use Rattle.trades.specs.declared.TradesAt.the-variants.{Closed, Refused}
+use Rattle.laws.specs.Exact.{of-int, op-fits, of-op}
+use Rattle.trades.specs.declared.TradesAt.the-variants.{Closed}
 use Rattle.trades.specs.Trades.{tradesFrom, oldestFrom}
 use Rattle.group.specs.Group.{closedAt}
 use Rattle.group.proofs.GroupMeans.{summed, group-refused, group-uncovered, total, total-size, group-closed}
 use borrow.Author.Needs.{needs}
 use Rattle.group.proofs.group_of.Statement.{statement}
 use Rattle.group.proofs.group_of.Tie as tie
-use Rattle.group.proofs.group_of.Reads as reads
-use Rattle.group.proofs.group_of.Lts as lts
-use Rattle.group.proofs.closed_at.Reads as closed-at-reads
-use Rattle.trades.proofs.oldest_gain.Reads as oldest-gain-reads
-use Rattle.trades.proofs.read_trades.Reads as read-trades-reads
-use Rattle.gain.proofs.net_long.Reads as net-long-reads
-use Rattle.gain.proofs.net_of.Reads as net-of-reads
 
 -- the trades were read
 module _ (c : tie.After-read-trades) where

@@ -4,9 +4,6 @@ use mathlib.Core.Path.{_∙_}
 use borrow.Author.Needs.{needs}
 use Rattle.group.proofs.offered_by.Statement.{statement}
 use Rattle.group.proofs.offered_by.Tie as tie
-use Rattle.group.proofs.offered_by.Reads as reads
-use Rattle.group.proofs.offered_by.Lts as lts
-use Rattle.gain.proofs.net_of.Reads as net-of-reads
 
 enum-told : tie.Need-enum-told
 enum-told c = search needs

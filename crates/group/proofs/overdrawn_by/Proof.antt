@@ -2,8 +2,6 @@
 -- Assumes nothing.
 use Rattle.group.proofs.overdrawn_by.Statement.{statement}
 use Rattle.group.proofs.overdrawn_by.Tie as tie
-use Rattle.group.proofs.overdrawn_by.Reads as reads
-use Rattle.group.proofs.overdrawn_by.Lts as lts
 
 returns : tie.Need-returns
 returns c = rw (c .before .if1 .taken)

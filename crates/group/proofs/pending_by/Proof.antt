@@ -4,9 +4,6 @@ use mathlib.Core.Path.{_∙_}
 use borrow.Author.Needs.{needs}
 use Rattle.group.proofs.pending_by.Statement.{statement}
 use Rattle.group.proofs.pending_by.Tie as tie
-use Rattle.group.proofs.pending_by.Reads as reads
-use Rattle.group.proofs.pending_by.Lts as lts
-use Rattle.gain.proofs.counted_pending.Reads as counted-pending-reads
 
 enum-told : tie.Need-enum-told
 enum-told c = search needs

@@ -1,19 +1,12 @@
 -- `group::read_group` meets its contract: K, H and Q, and then the trades.
 -- Assumes nothing.
-use mathlib.Core.Path.{_≡_, sym, ap, subst, _∙_}
-use mathlib.Core.List.{List}
-use Prim.Native.Nat.{ℕ}
+use mathlib.Core.Path.{sym, ap, subst, _∙_}
 use Rattle.group.specs.Group.{groupAt}
-use Rattle.group.specs.Position.{positionOf}
 use Rattle.group.proofs.Positions.{position-means, thenRead}
 use Rattle.group.proofs.Within.{HeldAt, position-within}
 use borrow.Author.Needs.{needs}
 use Rattle.group.proofs.read_group.Statement.{statement}
 use Rattle.group.proofs.read_group.Tie as tie
-use Rattle.group.proofs.read_group.Reads as reads
-use Rattle.group.proofs.read_group.Lts as lts
-use Rattle.group.proofs.group_of.Reads as group-of-reads
-use Rattle.group.proofs.read_position.Reads as read-position-reads
 
 read-position-requires : tie.Need-read-position-requires
 read-position-requires c κs = search needs

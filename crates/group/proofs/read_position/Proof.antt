@@ -7,11 +7,6 @@ use Rattle.group.specs.Position.{positionOf}
 use borrow.Author.Needs.{needs}
 use Rattle.group.proofs.read_position.Statement.{statement}
 use Rattle.group.proofs.read_position.Tie as tie
-use Rattle.group.proofs.read_position.Reads as reads
-use Rattle.group.proofs.read_position.Lts as lts
-use Rattle.fields.proofs.figure_at.Reads as figure-at-reads
-use Rattle.group.proofs.overdrawn_by.Reads as overdrawn-by-reads
-use Rattle.fields.proofs.refusal_in.Reads as refusal-in-reads
 
 figure-at-requires : tie.Need-figure-at-requires
 figure-at-requires c κs = search needs

@@ -2,11 +2,12 @@
 -- customers; the keys have their marks; and the columns are as long as they were.
 -- Assumes nothing.
 use borrow.Author.Needs.{needs}
-use Prim.Native.Nat.{ℕ, _+_, _-_, _≤_, _<_}
+use Prim.Native.Nat.{ℕ, suc, _+_, _-_, _≤_, _<_}
 use native.Mathlib.Omega.{arith}
 use mathlib.Core.Path.{_≡_, refl, sym, ap, subst, _∙_}
 use mathlib.Core.List.{List}
 use lib.ListN.{length, take, drop, length-set}
+use Rattle.rules.specs.Limits.{mostCustomers}
 use Rattle.rules.specs.Fields.{fieldsOf}
 use Rattle.codes.specs.Codes.{Marked}
 use Rattle.codes.proofs.Marks.{mark-below, marked-none, marked-more}
@@ -14,7 +15,8 @@ use Rattle.fields.specs.declared.Found.the-variants.{Field as FieldAt}
 use Rattle.fields.specs.First.{firstAt}
 use Rattle.fields.specs.Laws.{Stands, stands}
 use Rattle.roll.specs.declared.Roll.{Roll}
-use Rattle.roll.specs.Roll.{Room, Rolled}
+use Rattle.roll.specs.Roll.{Room, Rolled, Columns, columns, stored, filledFrom}
+use Rattle.roll.proofs.Filling.{stays-short, stays-other, stays-refused, fills}
 use Rattle.roll.proofs.Turns.{Between, Lasting, begun, turn-short, turn-other, turn-ended}
 use Rattle.roll.proofs.Customer.{turn-no-customer, More, turn-customer, size-said}
 use Rattle.roll.proofs.read_customers.Statement.{statement}
@@ -23,6 +25,7 @@ use Rattle.roll.proofs.read_customers.Tie as tie
 abbrev Inv-loop : tie.InvT-loop
 Inv-loop book terms first keys₀ starts₀ standings₀ stakes₀ marks₀ count₀ at₀ keys starts standings stakes marks count at =
     Between book terms first at count keys starts standings stakes × Marked keys marks count × Lasting keys₀ starts₀ standings₀ stakes₀ keys starts standings stakes
+    × (filledFrom mostCustomers book terms first 0 (columns keys₀ starts₀ standings₀ stakes₀) ≡ filledFrom (mostCustomers - count) book terms at count (columns keys starts standings stakes))
 
 abbrev μ-loop : tie.MeasureT-loop
 μ-loop book terms first keys₀ starts₀ standings₀ stakes₀ marks₀ count₀ at₀ keys starts standings stakes marks count at =
@@ -30,6 +33,13 @@ abbrev μ-loop : tie.MeasureT-loop
 
 abbrev begin : tie.At-loop Inv-loop μ-loop → tie.Start Inv-loop μ-loop
 begin b = b .before .before .before .before .before .before
+
+-- the columns of a turn, and how many customers they may still take
+abbrev held : tie.At-loop Inv-loop μ-loop → Columns
+held b = columns (b .loop .keys) (b .loop .starts) (b .loop .standings) (b .loop .stakes)
+
+abbrev free : tie.At-loop Inv-loop μ-loop → ℕ
+free b = mostCustomers - b .loop .count
 
 -- the field of a turn
 module _ (c : tie.After-known-told Inv-loop μ-loop) where
@@ -93,8 +103,17 @@ module _ (c : tie.After-key Inv-loop μ-loop) where
   wide : Room (state .loop .keys) (state .loop .starts) (state .loop .standings) (state .loop .stakes)
   wide = state .loop .inv .0 .room
 
+  -- and filled with it
+  one-filled :
+      filledFrom (free state) (book field-read) (begin state .args .terms) (state .loop .at) (state .loop .count) (held state)
+      ≡ filledFrom (mostCustomers - (state .loop .count + 1)) (book field-read) (begin state .args .terms) (c .key .given .0 .1 .0) (state .loop .count + 1)
+      (stored (held state) (state .loop .count) (c .key .given .0 .0) (start field-read) (c .key .given .0 .1 .1 .0) (c .key .given .0 .1 .1 .1 .0))
+  one-filled =
+      let less : free state ≡ suc (mostCustomers - (state .loop .count + 1)) = omega (arith, room) in
+      rw less (fills (book field-read) (begin state .args .terms) (state .loop .at) (state .loop .count) (held state) (mostCustomers - (state .loop .count + 1)) (said field-read) (asked .before .before .before .if2 .left) (sym (asked .customer-at .ensures) ∙ c .key .given .1))
+
 loop-holds : tie.Need-loop-holds Inv-loop μ-loop
-loop-holds c = let s = c .before .before .before .before .before in (begun (s .args .book .now) (s .args .terms) (s .args .first) (s .pre .1 .1), marked-none _, record { keys-last = refl; starts-last = refl; standings-last = refl; stakes-last = refl })
+loop-holds c = let s = c .before .before .before .before .before in (begun (s .args .book .now) (s .args .terms) (s .args .first) (s .pre .1 .1), marked-none _, record { keys-last = refl; starts-last = refl; standings-last = refl; stakes-last = refl }, refl)
 
 field-at-requires : tie.Need-field-at-requires Inv-loop μ-loop
 field-at-requires c κs = search needs
@@ -121,25 +140,43 @@ same-length-4 : tie.Need-same-length-4 Inv-loop μ-loop
 same-length-4 c = c .before .before .before .before .loop .inv .2 .stakes-last
 
 returns : tie.Need-returns Inv-loop μ-loop
-returns c = let f = c .before .before .before in let b = f .before in subst (λ v. Rolled (begin b .args .book .now) v (b .loop .keys) (b .loop .starts) (b .loop .standings) (b .loop .stakes) (c .refused .result)) (sym (turn-short (b .loop .inv .0) (sym (f .field-at .ensures) ∙ c .before .enum-told .given .1))) (ap (λ (r : Roll). r .refusal) (c .refused .ensures))
+returns c =
+    let f = c .before .before .before in
+    let b = f .before in
+    let none = sym (f .field-at .ensures) ∙ c .before .enum-told .given .1 in
+    record {
+      rolled = subst (λ v. Rolled (begin b .args .book .now) v (b .loop .keys) (b .loop .starts) (b .loop .standings) (b .loop .stakes) (c .refused .result)) (sym (turn-short (b .loop .inv .0) none)) (c .refused .ensures);
+      filled = sym (b .loop .inv .3 ∙ stays-short (begin b .args .book .now) (begin b .args .terms) (b .loop .at) (b .loop .count) (held b) (free b) none);
+    }
 
 end-at-requires : tie.Need-end-at-requires Inv-loop μ-loop
 end-at-requires c κs = search needs
 
+ended-requires : tie.Need-ended-requires Inv-loop μ-loop
+ended-requires c κs = search needs
+
 same-length-5 : tie.Need-same-length-5 Inv-loop μ-loop
-same-length-5 c = at-loop (c .before .before) .loop .inv .2 .keys-last
+same-length-5 c = at-loop (c .before .before .before) .loop .inv .2 .keys-last
 
 same-length-6 : tie.Need-same-length-6 Inv-loop μ-loop
-same-length-6 c = at-loop (c .before .before) .loop .inv .2 .starts-last
+same-length-6 c = at-loop (c .before .before .before) .loop .inv .2 .starts-last
 
 same-length-7 : tie.Need-same-length-7 Inv-loop μ-loop
-same-length-7 c = at-loop (c .before .before) .loop .inv .2 .standings-last
+same-length-7 c = at-loop (c .before .before .before) .loop .inv .2 .standings-last
 
 same-length-8 : tie.Need-same-length-8 Inv-loop μ-loop
-same-length-8 c = at-loop (c .before .before) .loop .inv .2 .stakes-last
+same-length-8 c = at-loop (c .before .before .before) .loop .inv .2 .stakes-last
 
 returns-2 : tie.Need-returns-2 Inv-loop μ-loop
-returns-2 c = let k = c .before .before in turn-ended (at-loop k .loop .inv .0) (as-tag k 90 (c .before .if1 .taken)) (c .end-at .result) (c .end-at .ensures)
+returns-2 c =
+    let x = c .before in
+    let k = x .before .before in
+    let b = at-loop k in
+    let z = x .before .if1 .taken in
+    record {
+      rolled = rw (c .ended .ensures) (turn-ended (b .loop .inv .0) (as-tag k 90 z) (x .end-at .result) (x .end-at .ensures));
+      filled = sym (b .loop .inv .3 ∙ stays-other (book k) (begin b .args .terms) (b .loop .at) (b .loop .count) (held b) (free b) (said k) (λ e. omega (arith, z, e)));
+    }
 
 refused-requires-2 : tie.Need-refused-requires-2 Inv-loop μ-loop
 refused-requires-2 c κs = search needs
@@ -157,7 +194,14 @@ same-length-12 : tie.Need-same-length-12 Inv-loop μ-loop
 same-length-12 c = at-loop (c .before .before .before) .loop .inv .2 .stakes-last
 
 returns-3 : tie.Need-returns-3 Inv-loop μ-loop
-returns-3 c = let e = c .before .before in let k = e .before in let b = at-loop k in subst (λ v. Rolled (book k) v (b .loop .keys) (b .loop .starts) (b .loop .standings) (b .loop .stakes) (c .refused2 .result)) (sym (turn-other (b .loop .inv .0) (there k) (c .before .if2 .taken) (e .if1 .left))) (ap (λ (r : Roll). r .refusal) (c .refused2 .ensures))
+returns-3 c =
+    let e = c .before .before in
+    let k = e .before in
+    let b = at-loop k in
+    record {
+      rolled = subst (λ v. Rolled (book k) v (b .loop .keys) (b .loop .starts) (b .loop .standings) (b .loop .stakes) (c .refused2 .result)) (sym (turn-other (b .loop .inv .0) (there k) (c .before .if2 .taken) (e .if1 .left))) (c .refused2 .ensures);
+      filled = sym (b .loop .inv .3 ∙ stays-other (book k) (begin b .args .terms) (b .loop .at) (b .loop .count) (held b) (free b) (said k) (c .before .if2 .taken));
+    }
 
 customer-at-requires : tie.Need-customer-at-requires Inv-loop μ-loop
 customer-at-requires c κs =
@@ -219,6 +263,7 @@ loop-again c =
         standings-last = simp length-set (z .standings-last);
         stakes-last = simp length-set (z .stakes-last);
       },
+      l .inv .3 ∙ one-filled o,
     )
 
 enum-known-r : tie.Need-enum-known-r Inv-loop μ-loop
@@ -245,9 +290,11 @@ returns-4 c =
     let d = x .before .before in
     let k = field-of d in
     let b = at-loop k in
-    subst (λ v. Rolled (book k) v (b .loop .keys) (b .loop .starts) (b .loop .standings) (b .loop .stakes) (c .refused3 .result))
-    (sym (turn-no-customer (b .loop .inv .0) (a-c d) (x .r .given .0 .0) (sym (d .customer-at .ensures) ∙ x .r .given .1)))
-    (ap (λ (r : Roll). r .refusal) (c .refused3 .ensures))
+    let no = sym (d .customer-at .ensures) ∙ x .r .given .1 in
+    record {
+      rolled = subst (λ v. Rolled (book k) v (b .loop .keys) (b .loop .starts) (b .loop .standings) (b .loop .stakes) (c .refused3 .result)) (sym (turn-no-customer (b .loop .inv .0) (a-c d) (x .r .given .0 .0) no)) (c .refused3 .ensures);
+      filled = sym (b .loop .inv .3 ∙ stays-refused (book k) (begin b .args .terms) (b .loop .at) (b .loop .count) (held b) (free b) (said k) (d .before .before .before .if2 .left) no);
+    }
 
 pub read-customers-spec : {M : Type 1} → statement M
 read-customers-spec =
@@ -266,6 +313,7 @@ read-customers-spec =
     same-length-4
     returns
     end-at-requires
+    ended-requires
     same-length-5
     same-length-6
     same-length-7

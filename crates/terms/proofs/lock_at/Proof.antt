@@ -1,28 +1,26 @@
 -- `terms::lock_at` meets its contract: D is the first field, and its value one byte.
 -- Assumes nothing.
-use borrow.Author.Tests.{eq-eqb, ne-eqb, eqb-true}
-use Prim.Native.Nat.{ℕ, _≤_, _<_, _+_, _-_}
+use Prim.Native.Char.{code}
+use borrow.Author.Tests.{eq-eqb, ne-eqb}
+use Prim.Native.Nat.{ℕ, _≤_, _+_, _-_}
 use native.Mathlib.Omega.{arith}
 use mathlib.Core.Path.{_≡_, refl, sym, ap, _∙_}
 use mathlib.Core.List.{List}
-use mathlib.Core.Bool.{Bool, true, false, cond}
+use mathlib.Core.Bool.{true, false, cond}
 use lib.ListN.{length, take, drop, getD}
 use lib.Dec.{eqb}
+use Rattle.rules.specs.Refusal as refusal
 use Rattle.rules.specs.Fields.{fieldsOf}
 use Rattle.fields.specs.Laws.{Stands, stands}
 use Rattle.terms.proofs.Found.{lock-short, lock-found}
 use Rattle.terms.specs.declared.LockAt.the-variants.{Locked}
 use Rattle.terms.specs.declared.LockAt.the-variants.{Refused as NoLock}
-use Rattle.fields.specs.Reading.{refusal}
+use Rattle.fields.specs.Reading.{refusedAt}
 use Rattle.terms.specs.Terms.{lockAt, lockFrom}
 use Rattle.terms.proofs.OneByte.{lock-long, lock-one}
 use borrow.Author.Needs.{needs}
 use Rattle.terms.proofs.lock_at.Statement.{statement}
 use Rattle.terms.proofs.lock_at.Tie as tie
-use Rattle.terms.proofs.lock_at.Reads as reads
-use Rattle.terms.proofs.lock_at.Lts as lts
-use Rattle.terms.proofs.no_lock.Reads as no-lock-reads
-use Rattle.fields.proofs.field_at.Reads as field-at-reads
 
 -- the field that was found
 module _ (c : tie.After-known-told) where
@@ -39,17 +37,17 @@ module _ (c : tie.After-known-told) where
   there = stands book 0 _ _ _ (sym (c .before .before .before .field-at .ensures) ∙ c .before .tag .given .1)
 
   -- it is D's, and its value is compared
-  found : c .before .tag .given .0 .0 ≡ 68 → lockFrom (fieldsOf book) ≡ lockAt end (take (end - start) (drop start book))
-  found t = lock-found book 0 _ start end there refl ∙ rw (eq-eqb (c .before .tag .given .0 .0) 68 t)
+  found : c .before .tag .given .0 .0 ≡ code "D" → lockFrom (fieldsOf book) ≡ lockAt end (take (end - start) (drop start book))
+  found t = lock-found book 0 _ start end there refl ∙ rw (eq-eqb (c .before .tag .given .0 .0) (code "D") t)
 
-  one : c .before .tag .given .0 .0 ≡ 68 → end ≡ start + 1 →
+  one : c .before .tag .given .0 .0 ≡ code "D" → end ≡ start + 1 →
       lockFrom (fieldsOf book)
-      ≡ cond (eqb (getD book start 0) 68) (Locked true end) (cond (eqb (getD book start 0) 85) (Locked false end) (NoLock (refusal 5 0)))
+      ≡ cond (eqb (getD book start 0) (code "D")) (Locked true end) (cond (eqb (getD book start 0) (code "U")) (Locked false end) (NoLock (refusedAt refusal.malformed 0)))
   one t e =
       let n : end - start ≡ 1 = omega arith in
       found t ∙ ap (λ (k : ℕ). lockAt end (take k (drop start book))) n ∙ lock-one end book start (omega (arith, there .inside))
 
-  another : c .before .tag .given .0 .0 ≡ 68 → (end ≡ start + 1 → ⊥) → lockFrom (fieldsOf book) ≡ NoLock (refusal 5 0)
+  another : c .before .tag .given .0 .0 ≡ code "D" → (end ≡ start + 1 → ⊥) → lockFrom (fieldsOf book) ≡ NoLock (refusedAt refusal.malformed 0)
   another t e =
       let n = take (end - start) (drop start book) in
       let o : (length n ≡ 1) → ⊥ = λ (z : length n ≡ 1). e (let w : end - start ≡ 1 = sym (there .size) ∙ z in let l : start ≤ end = there .order in omega arith) in

@@ -5,10 +5,6 @@ use Rattle.terms.specs.Terms.{termsOf}
 use borrow.Author.Needs.{needs}
 use Rattle.terms.proofs.read_terms.Statement.{statement}
 use Rattle.terms.proofs.read_terms.Tie as tie
-use Rattle.terms.proofs.read_terms.Reads as reads
-use Rattle.terms.proofs.read_terms.Lts as lts
-use Rattle.terms.proofs.lock_at.Reads as lock-at-reads
-use Rattle.terms.proofs.terms_after.Reads as terms-after-reads
 
 lock-at-requires : tie.Need-lock-at-requires
 lock-at-requires c κs = search needs

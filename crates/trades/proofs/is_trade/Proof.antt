@@ -3,8 +3,6 @@
 use borrow.Author.Tests.{eq-eqb, ne-eqb}
 use Rattle.trades.proofs.is_trade.Statement.{statement}
 use Rattle.trades.proofs.is_trade.Tie as tie
-use Rattle.trades.proofs.is_trade.Reads as reads
-use Rattle.trades.proofs.is_trade.Lts as lts
 
 returns : tie.Need-returns
 returns c = simp (eq-eqb _ _ (c .if1 .taken))

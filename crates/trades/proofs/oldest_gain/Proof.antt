@@ -3,16 +3,14 @@
 -- Assumes nothing.
 use borrow.Author.Needs.{needs}
 use borrow.Author.Tests.{ne-eqb}
-use Prim.Native.Nat.{ℕ, _+_, _-_, _*_, _≤_, _<_, min}
+use Prim.Native.Nat.{ℕ, _+_, _-_, _*_, _≤_, min}
 use native.Mathlib.Omega.{arith}
-use mathlib.Core.Path.{_≡_, refl, sym, ap, ap₂, _∙_}
+use mathlib.Core.Path.{_≡_, sym, ap, ap₂, _∙_}
 use mathlib.Core.List.{List}
-use mathlib.Core.Bool.{cond}
 use lib.ListN.{length, take, drop}
-use lib.Dec.{eqb}
-use lib.IntN.{ℤ, pos, natAbs, _+ℤ_, +ℤ-assoc, +ℤ-idr, +ℤ-idl}
+use lib.IntN.{ℤ, natAbs, _+ℤ_, +ℤ-assoc, +ℤ-idr, +ℤ-idl}
 use mir.Syntax.{w64}
-use mir.Val.{toZ, ofZ}
+use mir.Val.{toZ}
 use Rattle.rules.specs.declared.Trade.{Trade}
 use Rattle.rules.specs.declared.Opening.the-variants.{Made}
 use Rattle.rules.specs.Text.{is}
@@ -27,13 +25,6 @@ use Rattle.trades.proofs.Found.{oldest-zero, oldest-short, oldest-found
 use Rattle.trades.proofs.Sizes.{lots-on-most, sum-fits, sum-is, sum-size}
 use Rattle.trades.proofs.oldest_gain.Statement.{statement}
 use Rattle.trades.proofs.oldest_gain.Tie as tie
-use Rattle.trades.proofs.oldest_gain.Reads as reads
-use Rattle.trades.proofs.oldest_gain.Lts as lts
-use Rattle.trades.proofs.least.Reads as least-reads
-use Rattle.trades.proofs.lots_on.Reads as lots-on-reads
-use Rattle.fields.proofs.field_at.Reads as field-at-reads
-use Rattle.figures.proofs.read_opening.Reads as read-opening-reads
-use Rattle.gain.proofs.gain_of.Reads as gain-of-reads
 
 abbrev Inv-loop : tie.InvT-loop
 Inv-loop book settlement long first skip at₀ left₀ gain₀ at left gain = (left ≤ skip) × (skip - left ≤ at * 1000000) × (natAbs (toZ w64 gain) ≤ 9999999 * (skip - left)) × (oldestFrom long settlement skip (fieldsOf (drop first book)) ≡ toZ w64 gain +ℤ oldestFrom long settlement left (fieldsOf (drop at book)))
@@ -88,7 +79,7 @@ module _ (c : tie.After-known-told Inv-loop μ-loop) where
   short = omega (arith, there .inside, at-loop .before .before .pre .0)
 
 -- a trade that was read
-module _ (c : tie.After-least Inv-loop μ-loop) where
+module _ (c : tie.After-lesser Inv-loop μ-loop) where
   abbrev opening-read : tie.After-read-opening Inv-loop μ-loop
   opening-read = c .before .before .before .before .before
 
@@ -101,16 +92,16 @@ module _ (c : tie.After-least Inv-loop μ-loop) where
   is-made : openingOf (is "B" (tag field-read)) (take (end field-read - start field-read) (drop (start field-read) (book field-read))) ≡ Made made
   is-made = sym (opening-read .read-opening .ensures) ∙ c .before .before .before .t .given .1
 
-  part : c .least .result ≡ min (lotsOn (at-loop field-read .before .before .args .long) made) (at-loop field-read .loop .left)
-  part = c .least .ensures ∙ ap (λ (n : ℕ). min n (at-loop field-read .loop .left)) (c .before .lots-on .ensures)
+  part : c .lesser .result ≡ min (lotsOn (at-loop field-read .before .before .args .long) made) (at-loop field-read .loop .left)
+  part = c .lesser .ensures ∙ ap (λ (n : ℕ). min n (at-loop field-read .loop .left)) (c .before .lots-on .ensures)
 
   range : OpeningWithin (is "B" (tag field-read)) made
   range = opening-within (is "B" (tag field-read)) _ made is-made
 
-  few : (c .least .result ≤ 1000000) × (c .least .result ≤ at-loop field-read .loop .left)
+  few : (c .lesser .result ≤ 1000000) × (c .lesser .result ≤ at-loop field-read .loop .left)
   few = (omega (arith, part, lots-on-most (at-loop field-read .before .before .args .long) made, range .lots-most), omega (arith, part))
 
-  bounded : at-loop field-read .before .before .args .skip - at-loop field-read .loop .left + c .least .result ≤ 68719476736
+  bounded : at-loop field-read .before .before .args .skip - at-loop field-read .loop .left + c .lesser .result ≤ 68719476736
   bounded = omega (arith, few .0, short field-read, there field-read .begins, there field-read .order, at-loop field-read .loop .inv .1)
 
 loop-holds : tie.Need-loop-holds Inv-loop μ-loop
@@ -146,14 +137,14 @@ enum-known-t c = search needs
 lots-on-requires : tie.Need-lots-on-requires Inv-loop μ-loop
 lots-on-requires c κs = search needs
 
-least-requires : tie.Need-least-requires Inv-loop μ-loop
-least-requires c κs = search needs
+lesser-requires : tie.Need-lesser-requires Inv-loop μ-loop
+lesser-requires c κs = search needs
 
 gain-of-requires : tie.Need-gain-of-requires Inv-loop μ-loop
 gain-of-requires c κs = record { settlement = at-loop (field-read c) .before .before .pre .1; price = range c .price-most; lots = omega (arith, few c .0) }
 
 add-gain : tie.Need-add-gain Inv-loop μ-loop
-add-gain c = let b = c .before in let l = at-loop (field-read b) .loop in sum-fits (l .gain) (c .gain-of .result) (at-loop (field-read b) .before .before .args .skip - l .left) (b .least .result) (l .inv .2) (c .gain-of .ensures .size) (bounded b)
+add-gain c = let b = c .before in let l = at-loop (field-read b) .loop in sum-fits (l .gain) (c .gain-of .result) (at-loop (field-read b) .before .before .args .skip - l .left) (b .lesser .result) (l .inv .2) (c .gain-of .ensures .size) (bounded b)
 
 sub-left : tie.Need-sub-left Inv-loop μ-loop
 sub-left c = few (c .before) .1
@@ -182,9 +173,9 @@ loop-again c =
     let g = c .gain-of .ensures .exact in
     let rest = fieldsOf (drop (end k) (book k)) in
     let n = min (lotsOn (a .long) (made b)) (l .left) in
-    let e = sum-is (l .gain) (c .gain-of .result) (a .skip - l .left) (b .least .result) (l .inv .2) (c .gain-of .ensures .size) (bounded b) in
-    let size = sum-size (l .gain) (c .gain-of .result) (a .skip - l .left) (b .least .result) (l .inv .2) (c .gain-of .ensures .size) (bounded b) in
-    let m : a .skip - (l .left - b .least .result) ≡ a .skip - l .left + b .least .result = omega (arith, few b .1, l .inv .0) in (
+    let e = sum-is (l .gain) (c .gain-of .result) (a .skip - l .left) (b .lesser .result) (l .inv .2) (c .gain-of .ensures .size) (bounded b) in
+    let size = sum-size (l .gain) (c .gain-of .result) (a .skip - l .left) (b .lesser .result) (l .inv .2) (c .gain-of .ensures .size) (bounded b) in
+    let m : a .skip - (l .left - b .lesser .result) ≡ a .skip - l .left + b .lesser .result = omega (arith, few b .1, l .inv .0) in (
       omega (arith, l .inv .0),
       omega (arith, few b .0, there k .begins, there k .order, l .inv .1),
       rw m size,
@@ -214,7 +205,7 @@ oldest-gain-spec =
     read-opening-requires
     enum-known-t
     lots-on-requires
-    least-requires
+    lesser-requires
     gain-of-requires
     add-gain
     sub-left

@@ -2,44 +2,32 @@
 -- lots are at most 1,000,000 for each byte passed, and the gain at most the highest price for each lot.
 -- Assumes nothing.
 use borrow.Author.Needs.{needs}
-use borrow.Author.Tests.{eq-eqb, ne-eqb}
-use Prim.Native.Nat.{ℕ, _+_, _-_, _*_, _^_, _≤_, _<_}
+use Prim.Native.Nat.{ℕ, _+_, _-_, _*_, _≤_}
 use native.Mathlib.Omega.{arith}
 use mathlib.Core.Path.{_≡_, refl, sym, ap, ap₂, _∙_}
 use mathlib.Core.List.{List}
-use mathlib.Core.Bool.{Bool, true, false, cond, _||_}
+use mathlib.Core.Bool.{cond, _||_}
 use lib.ListN.{length, take, drop}
 use lib.IntN.{ℤ, pos, natAbs, _+ℤ_}
-use mir.Val.{toZ, ofZ}
+use mir.Val.{toZ}
 use mir.Syntax.{w64}
 use Rattle.rules.specs.declared.Trade.{Trade}
 use Rattle.rules.specs.declared.Opening.the-variants.{Made}
+use Rattle.rules.specs.Refusal as refusal
 use Rattle.rules.specs.Text.{is}
 use Rattle.rules.specs.Figures.{openingOf}
 use Rattle.rules.specs.Fields.{fieldsOf}
-use Rattle.rules.specs.Book.{onSide}
 use Rattle.rules.specs.Standing.{gainOf}
 use Rattle.laws.specs.Figures.{OpeningWithin, opening-within}
-use Rattle.laws.specs.Exact.{Exact, small-fits, of-int, op-fits, of-op, size-add}
 use Rattle.laws.specs.Gains.{lotsOn}
 use Rattle.fields.specs.Laws.{Stands, stands}
-use Rattle.trades.specs.declared.TradesAt.{TradesAt}
 use Rattle.trades.specs.declared.TradesAt.the-variants.{Closed, Refused}
-use Rattle.fields.specs.Reading.{refusal}
+use Rattle.fields.specs.Reading.{refusedAt}
 use Rattle.trades.specs.Trades.{opening, tradesFrom}
 use Rattle.trades.proofs.Found.{trades-short, trades-found}
 use Rattle.trades.proofs.Sizes.{not-true, not-false, lots-on-most, sum-fits, sum-is, sum-size}
 use Rattle.trades.proofs.read_trades.Statement.{statement}
 use Rattle.trades.proofs.read_trades.Tie as tie
-use Rattle.trades.proofs.read_trades.Reads as reads
-use Rattle.trades.proofs.read_trades.Lts as lts
-use Rattle.trades.proofs.is_closing.Reads as is-closing-reads
-use Rattle.trades.proofs.is_trade.Reads as is-trade-reads
-use Rattle.trades.proofs.lots_on.Reads as lots-on-reads
-use Rattle.trades.proofs.no_trades.Reads as no-trades-reads
-use Rattle.fields.proofs.field_at.Reads as field-at-reads
-use Rattle.figures.proofs.read_opening.Reads as read-opening-reads
-use Rattle.gain.proofs.gain_of.Reads as gain-of-reads
 
 abbrev Inv-loop : tie.InvT-loop
 Inv-loop book settlement long first at₀ opened₀ gain₀ at opened gain = (opened ≤ at * 1000000) × (natAbs (toZ w64 gain) ≤ 9999999 * opened) × (tradesFrom long settlement first 0 (pos 0) (fieldsOf (drop first book)) ≡ tradesFrom long settlement at opened (toZ w64 gain) (fieldsOf (drop at book)))
@@ -84,7 +72,7 @@ module _ (c : tie.After-known-told Inv-loop μ-loop) where
       (cond (is "B" tag || is "A" tag)
       (opening at (openingOf (is "B" tag) (take (end - start) (drop start book))) λ x.
       tradesFrom (a .long) (a .settlement) end (opened + lotsOn (a .long) x) (gain +ℤ gainOf (a .long) (a .settlement) (x .price) (lotsOn (a .long) x)) (fieldsOf (drop end book)))
-      (Refused (refusal 3 at)))
+      (Refused (refusedAt refusal.misplaced at)))
   turned =
       let a = at-loop .before .before .args in
       at-loop .loop .inv .2 ∙ trades-found book (at-loop .loop .at) tag start end there (a .long) (a .settlement) (at-loop .loop .opened) (toZ w64 (at-loop .loop .gain))

@@ -1,0 +1,76 @@
+-- The makers of the tables' books and reports. The layout of terms, customers, trades and entries is said here and nowhere else
+-- in the tables.
+-- Assumes nothing.
+use Prim.Native.Nat.{ℕ}
+use Prim.Native.Char.{Char}
+use Prim.Native.String.{String}
+use mathlib.Core.List.{List, [], _++_}
+use Rattle.rules.specs.Text.{bytes}
+use Rattle.rules.specs.Report.{field, joined}
+
+-- D, and what stands before S
+abbrev pub lock : String → List ℕ
+lock d = field "D" (bytes d)
+
+-- one of S, L, U, V
+abbrev pub term : Char → String → List ℕ
+term tag v = field tag (bytes v)
+
+abbrev pub terms : String → String → String → String → String → List ℕ
+terms d s l u v = lock d ++ term "S" s ++ term "L" l ++ term "U" u ++ term "V" v
+
+-- "S 400.00, gold edges, locked down": what stands before each of the terms, and all of them
+abbrev pub beforeS : List ℕ
+beforeS = lock "D"
+
+abbrev pub beforeL : List ℕ
+beforeL = beforeS ++ term "S" "400.00"
+
+abbrev pub beforeU : List ℕ
+beforeU = beforeL ++ term "L" "8.000"
+
+abbrev pub beforeV : List ℕ
+beforeV = beforeU ++ term "U" "8.000"
+
+abbrev pub gold : List ℕ
+gold = beforeV ++ term "V" "4.000"
+
+-- gold's terms, locked up
+abbrev pub goldUp : List ℕ
+goldUp = terms "U" "400.00" "8.000" "8.000" "4.000"
+
+-- trades: a price, a blank, lots
+abbrev pub bought : String → List ℕ
+bought v = field "B" (bytes v)
+
+abbrev pub sold : String → List ℕ
+sold v = field "A" (bytes v)
+
+-- C, and what stands before K
+abbrev pub begins : List ℕ → List ℕ
+begins code = field "C" code
+
+-- one of K, H, Q
+abbrev pub held : Char → String → List ℕ
+held tag n = field tag (bytes n)
+
+-- C, K, H, Q, then the trades
+abbrev pub group : List ℕ → String → String → String → List (List ℕ) → List ℕ
+group code k h q trades = begins code ++ held "K" k ++ held "H" h ++ held "Q" q ++ joined (λ t. t) trades
+
+abbrev pub customer : String → String → String → String → List (List ℕ) → List ℕ
+customer c k h q trades = group (bytes c) k h q trades
+
+abbrev pub end : List ℕ
+end = field "Z" []
+
+-- the terms, the groups, Z
+abbrev pub book : List ℕ → List (List ℕ) → List ℕ
+book tms groups = tms ++ joined (λ g. g) groups ++ end
+
+-- a report: T and R, and C, E, O of each customer
+abbrev pub totals : String → String → List ℕ
+totals t r = field "T" (bytes t) ++ field "R" (bytes r)
+
+abbrev pub entry : String → String → String → List ℕ
+entry c e o = field "C" (bytes c) ++ field "E" (bytes e) ++ field "O" (bytes o)

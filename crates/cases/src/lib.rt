@@ -1,0 +1,1 @@
+// Document 01's cases, computed, in specs/; no code.

@@ -1,0 +1,20 @@
+-- Theorems about whole books and outcomes, a file for each idea, in the order in which they rest on one another; first demand 3's definitions.
+pub mod Rearranged
+pub mod Alike
+pub mod Picks
+pub mod Chosen
+pub mod Tiers
+pub mod Offsets
+pub mod Balance
+pub mod Within
+pub mod Lines
+pub mod Runs
+pub mod Framed
+pub mod Steps
+pub mod Described
+pub mod Apart
+pub mod NoneTwice
+pub mod PutTogether
+pub mod DistinctPicks
+pub mod Accepted
+pub mod Rearrange

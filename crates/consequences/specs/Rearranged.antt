@@ -1,0 +1,77 @@
+-- "Rearrange an accepted book's customers, or take out those who are neither pending nor in a tier, or both": a book in parts, and the
+-- book of some of its customers in some order.
+-- Assumes nothing.
+use Prim.Native.Nat.{ℕ, zero, suc, _+_, _*_, _<_}
+use mathlib.Core.Path.{_≡_}
+use mathlib.Core.List.{List, [], _∷_, _++_, map}
+use mathlib.Core.Bool.{Bool, false, cond, _||_}
+use lib.ListN.{length, getD, take, drop}
+use lib.Dec.{eqb}
+use Rattle.rules.specs.declared.Standing.the-variants.{Neither}
+use Rattle.rules.specs.Text.{is}
+use Rattle.rules.specs.Report.{joined}
+use Rattle.rules.specs.Cascade.{Line}
+
+-- the bytes of each field as they stand, one field after the other
+abbrev pub cutIn : ℕ → List ℕ → List (List ℕ)
+cutIn zero s = []
+cutIn (suc most) [] = []
+cutIn (suc most) (tag ∷ []) = (tag ∷ []) ∷ []
+cutIn (suc most) (tag ∷ high ∷ []) = (tag ∷ high ∷ []) ∷ []
+cutIn (suc most) (tag ∷ high ∷ low ∷ s) =
+    let n = high * 256 + low in
+    (tag ∷ high ∷ low ∷ take n s) ∷ cutIn most (drop n s)
+
+-- A book's bytes in parts: its terms, each customer's group from its C on, and what stands from Z on
+pub record Parts : Type 0 where
+  pub terms : List ℕ
+  pub groups : List (List ℕ)
+  pub end : List ℕ
+
+-- the parts put together
+abbrev pub together : Parts → List ℕ
+together p = p .terms ++ joined (λ g. g) (p .groups) ++ p .end
+
+-- the parts of a book that has one field more in front: a C takes what stands before the next C or Z into its group
+abbrev pub behind : List ℕ → Parts → Parts
+behind f p =
+    cond (is "C" (getD f 0 0)) (record { terms = []; groups = (f ++ p .terms) ∷ p .groups; end = p .end })
+    (cond (is "Z" (getD f 0 0)) (record { terms = []; groups = []; end = f ++ together p })
+    (record { terms = f ++ p .terms; groups = p .groups; end = p .end }))
+
+abbrev pub partsIn : List (List ℕ) → Parts
+partsIn [] = record { terms = []; groups = []; end = [] }
+partsIn (f ∷ fs) = behind f (partsIn fs)
+
+unfoldable pub partsOf : List ℕ → Parts
+partsOf s = partsIn (cutIn (length s) s)
+
+-- the members of a list that stand at some indices, in the order of the indices
+abbrev pub picked : {A : Type 0} → A → List A → List ℕ → List A
+picked none l is = map (λ i. getD l i none) is
+
+-- the book of some of its customers, by their indices in the book, in any order
+unfoldable pub rearranged : List ℕ → List ℕ → List ℕ
+rearranged s is = together (record { terms = partsOf s .terms; groups = picked [] (partsOf s .groups) is; end = partsOf s .end })
+
+abbrev pub among : ℕ → List ℕ → Bool
+among i [] = false
+among i (j ∷ js) = eqb i j || among i js
+
+abbrev pub Below : ℕ → List ℕ → Type 0
+Below n [] = Unit
+Below n (i ∷ is) = (i < n) × Below n is
+
+abbrev pub Once : List ℕ → Type 0
+Once [] = Unit
+Once (i ∷ is) = (among i is ≡ false) × Once is
+
+-- nobody's line, where an index is none of the book's
+abbrev pub nobody : Line
+nobody = record { code = []; standing = Neither; offered = 0; pending = 0; offset = 0 }
+
+-- indices of the lines, none twice, and whoever is left out is neither pending nor in a tier
+pub record Chosen (ls : List Line) (is : List ℕ) : Type 0 where
+  pub below : Below (length ls) is
+  pub once : Once is
+  pub bystanders : (i : ℕ) → i < length ls → among i is ≡ false → getD ls i nobody .standing ≡ Neither

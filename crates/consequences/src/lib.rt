@@ -1,0 +1,1 @@
+// Theorems about whole books and outcomes, in specs/; no code.

@@ -1,0 +1,92 @@
+-- Wrong answers to document 01's listing: the contract of `frundavel_allot` allows none of them. Computed.
+-- Assumes nothing.
+use Prim.Native.Nat.{ℕ}
+use Prim.Native.String.{String}
+use mathlib.Core.Path.{_≡_, refl, sym, ap, ap₂, _∙_}
+use mathlib.Core.List.{List, [], _∷_, _++_}
+use lib.ListN.{length, take, drop, replicate}
+use lib.Seq.{take-at}
+use contract.Lifetimes.{Lfts}
+use denote.Ref.{now}
+use denote.Triple.Entry.{Args}
+use denote.Triple.Clauses.{AtExit}
+use native.Mathlib.Omega.{arith}
+use Rattle.rules.specs.Text.{bytes}
+use Rattle.rules.specs.Figures.{figureOf, openingOf}
+use Rattle.rules.specs.Codes.{isCode}
+use Rattle.rules.specs.Fields.{fieldsOf}
+use Rattle.rules.specs.Book.{within, step, judge}
+use Rattle.rules.specs.Standing.{gainFrom, totalGain, standing}
+use Rattle.rules.specs.Division.{leftOver, rank, shareOf, share}
+use Rattle.rules.specs.Cascade.{lineOf, quantity, after, cascade, outcome}
+use Rattle.rules.specs.Report.{field, digits, reported, report, listing}
+use Rattle.rules.specs.Answer.{answer}
+use Rattle.cases.specs.Case.{Holds, so}
+use Rattle.cases.specs.Cases.{theListing}
+use Rattle.writing.specs.Written.{written-front}
+use Rattle.allotment.proofs as allotment
+use Rattle.examples.specs.Allowed.{Tried, tried, allowed, Contradicted, done, _&_, none-given}
+
+-- the listing, and the same with a comma in L; buffers filled with one byte
+abbrev sound : List ℕ
+sound = theListing "8.000"
+
+abbrev comma : List ℕ
+comma = theListing "8,000"
+
+abbrev room : ℕ → List ℕ
+room n = replicate n 255
+
+abbrev line : String → String → String → List ℕ
+line code letter lots = field "C" (bytes code) ++ field "E" (bytes letter) ++ field "O" (bytes lots)
+
+-- a report of the five customers: the total, the residue, and the lots offset in the listing's order
+abbrev told : String → String → String → String → String → String → String → List ℕ
+told total residue w3 p2 w1 p1 w2 =
+    field "T" (bytes total) ++ field "R" (bytes residue) ++ line "W3" "3" w3 ++ line "P2" "P" p2 ++ line "W1" "1" w1 ++ line "P1" "P" p1 ++ line "W2" "2" w2
+
+abbrev right : List ℕ
+right = told "9" "1" "1" "3" "3" "6" "5"
+
+-- number 0, and a report in a buffer of 80 bytes
+abbrev reports : String → List ℕ → Tried
+reports name shown = tried name sound (room 80) 0 0 (length shown) (shown ++ drop (length shown) (room 80))
+
+-- the listing's report, so that a wrong one differs in its one respect
+pub right-allowed : Holds "the listing" (allowed (reports "the listing" right))
+unfolding answer figureOf openingOf isCode fieldsOf within step judge gainFrom totalGain standing leftOver rank shareOf share lineOf quantity after cascade outcome digits reported report
+right-allowed = so
+
+abbrev pub wrong : List Tried
+wrong =
+    reports "the cascade is not run" (told "0" "10" "0" "0" "0" "0" "0")
+    ∷ reports "tier 1 alone" (told "3" "7" "0" "1" "3" "2" "0")
+    ∷ reports "of equal remainders the larger code" (told "9" "1" "1" "4" "3" "5" "5")
+    ∷ tried "accepted, and nothing is written" sound (room 80) 0 0 0 (room 80)
+    ∷ tried "the length is one short" sound (room 80) 0 0 72 (right ++ room 7)
+    ∷ tried "a byte behind the report is altered" sound (room 80) 0 0 73 (right ++ room 6 ++ 0 ∷ [])
+    ∷ tried "the empty book's answer" sound (room 80) 2 0 0 (room 80)
+    ∷ tried "no room, where there is" sound (room 73) 11 73 0 (room 73)
+    ∷ tried "a report cut to its room" sound (room 72) 0 0 72 (take 72 right)
+    ∷ tried "number and place change places" comma (room 80) 13 4 0 (room 80)
+    ∷ tried "refused, and a byte is altered" comma (room 80) 4 13 0 (0 ∷ room 79)
+    ∷ tried "a comma is passed over" comma (room 80) 0 0 73 (right ++ room 7)
+    ∷ []
+
+pub contradicted : Contradicted wrong
+unfolding answer figureOf openingOf isCode fieldsOf within step judge gainFrom totalGain standing leftOver rank shareOf share lineOf quantity after cascade outcome digits reported report
+contradicted = none-given wrong (so & so & so & so & so & so & so & so & so & so & so & so & done)
+
+-- What the program's `list` leaves at the front of the buffer, as many bytes as it returns, is the listing: a refused book is not listed as one
+-- without customers.
+module _ (κs : Lfts 2) (a : Args allotment.list.signature κs) (r : ℕ) (s : AtExit allotment.list.ended κs) (h : allotment.list.Reads.Learnt κs a r s) where
+  pub listed : take r (now (s .1 .0)) ≡ listing (now (a .0))
+  listed =
+      let text = listing (now (a .0)) in
+      ap₂ take (h .size) (h .buffer ∙ written-front text (now (a .1 .0))) ∙ take-at text (drop (length text) (now (a .1 .0))) (length text) refl
+
+  pub not-without-customers : now (a .0) ≡ comma → take r (now (s .1 .0)) ≡ bytes "total 0\nleft 0\n" → ⊥
+  unfolding figureOf openingOf isCode fieldsOf within step judge digits listing
+  not-without-customers book shown =
+      let refused : listing (now (a .0)) ≡ bytes "refused 4 at 13\n" = ap listing book in
+      absurd (omega (arith, ap length (sym shown ∙ listed ∙ refused)))

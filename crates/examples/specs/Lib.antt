@@ -1,0 +1,5 @@
+-- The promises on small books, computed: the statement and demand 3 on examples, and wrong answers that the contract does not allow.
+pub mod Listing
+pub mod Rearranged
+pub mod Allowed
+pub mod Contradicted

@@ -1,0 +1,1 @@
+// The promises on small books, computed, in specs/; no code.

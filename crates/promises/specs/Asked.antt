@@ -1,0 +1,66 @@
+-- What a function asks of its caller before it is called, which the kit publishes of the source as `Asked`. The entry points ask for nothing, whatever the
+-- bytes, and so do the functions that first look at them; the program's `list` asks for a buffer that is always large enough.
+-- Assumes nothing.
+use Prim.Native.Nat.{_≤_}
+use mathlib.Core.Logic.{_↔_}
+use lib.ListN.{length}
+use contract.Lifetimes.{Lfts}
+use denote.Ref.{now}
+use denote.Triple.Entry.{Args}
+use denote.Triple.Clauses.{Ended}
+use Rattle.figures.proofs as figures
+use Rattle.codes.proofs as codes
+use Rattle.gain.proofs as gain
+use Rattle.fields.proofs as fields
+use Rattle.terms.proofs as terms
+use Rattle.writing.proofs as writing
+use Rattle.entries.proofs as entries
+use Rattle.allotment.proofs as allotment
+
+abbrev pub AsksNothing : (T : Ended) → ((κs : Lfts (T .signature .lifetimes)) → Args (T .signature) κs → Type 0) → Type 0
+AsksNothing T Asked = (κs : Lfts (T .signature .lifetimes)) (a : Args (T .signature) κs) → Asked κs a
+
+-- the entry points
+pub allot : AsksNothing allotment.allot.ended allotment.allot.Reads.Asked
+allot κs a = tt
+
+pub frundavel-allot : AsksNothing allotment.frundavel_allot.ended allotment.frundavel_allot.Reads.Asked
+frundavel-allot κs a = tt
+
+-- 8,192 bytes, no more and no less
+pub list : (κs : Lfts 2) (a : Args allotment.list.signature κs) → allotment.list.Reads.Asked κs a ↔ (8_192 ≤ length (now (a .1 .0)))
+list κs a = (λ h. h, λ h. h)
+
+-- the functions that look at bytes of a book, and the sums
+pub read-terms : AsksNothing terms.read_terms.ended terms.read_terms.Reads.Asked
+read-terms κs a = tt
+
+pub field-at : AsksNothing fields.field_at.ended fields.field_at.Reads.Asked
+field-at κs a = tt
+
+pub refusal-in : AsksNothing fields.refusal_in.ended fields.refusal_in.Reads.Asked
+refusal-in κs a = tt
+
+pub read-opening : AsksNothing figures.read_opening.ended figures.read_opening.Reads.Asked
+read-opening κs a = tt
+
+pub read-code : AsksNothing codes.read_code.ended codes.read_code.Reads.Asked
+read-code κs a = tt
+
+pub net-of : AsksNothing gain.net_of.ended gain.net_of.Reads.Asked
+net-of κs a = tt
+
+pub net-long : AsksNothing gain.net_long.ended gain.net_long.Reads.Asked
+net-long κs a = tt
+
+pub counted-pending : AsksNothing gain.counted_pending.ended gain.counted_pending.Reads.Asked
+counted-pending κs a = tt
+
+pub digits-length : AsksNothing writing.digits_length.ended writing.digits_length.Reads.Asked
+digits-length κs a = tt
+
+pub letter-of : AsksNothing writing.letter_of.ended writing.letter_of.Reads.Asked
+letter-of κs a = tt
+
+pub head-length : AsksNothing entries.head_length.ended entries.head_length.Reads.Asked
+head-length κs a = tt

@@ -1,0 +1,123 @@
+-- The same of the functions that put bytes into a lent buffer or lots into lent columns, and of the call: see `Determined`.
+-- Assumes nothing.
+use Prim.Native.Nat.{ℕ}
+use mathlib.Core.Path.{_≡_, refl, sym, ap, _∙_}
+use mathlib.Core.List.{List, []}
+use denote.Ref.{now}
+use Rattle.rules.specs.Book.{Verdict, Refused, Accepted, judge}
+use Rattle.writing.specs.Written.{Wrote}
+use Rattle.roll.specs.declared.Roll.{Roll}
+use Rattle.roll.specs.Roll.{Columns, Rolled}
+use Rattle.rules.specs.Answer.{Answer as Answer01}
+use Rattle.allotment.specs.declared.Answer.{Answer}
+use Rattle.allotment.specs.Answered.{Answered}
+use Rattle.division.proofs as division
+use Rattle.cascade.proofs as cascade
+use Rattle.writing.proofs as writing
+use Rattle.entries.proofs as entries
+use Rattle.printing.proofs as printing
+use Rattle.roll.proofs as roll
+use Rattle.report.proofs as report
+use Rattle.allotment.proofs as allotment
+use Rattle.promises.specs.Determined.{Determined}
+
+-- a contract that names the bytes written into the buffer that is lent first, and the place behind them
+wrote : {Rest : Type 0} {rest : Rest} {at r q : ℕ} {bytes entry x y : List ℕ} → Wrote at bytes entry x r → Wrote at bytes entry y q →
+    (r ≡ q) × (_≡_ {A = List ℕ × Rest} (x, rest) (y, rest))
+wrote {Rest} {rest} e f = (e .next ∙ sym (f .next), ap (λ b. (b, rest)) (e .whole ∙ sym (f .whole)))
+
+-- division
+pub divide : Determined division.divide.ended division.divide.Reads.Learnt
+divide κs a r q s t e f = (refl, ap (λ lots. (lots, (tt, (tt, (tt, (tt, tt)))))) (e ∙ sym f))
+
+-- cascade
+pub owed : Determined cascade.owed.ended cascade.owed.Reads.Learnt
+owed κs a r q s t e f = (e ∙ sym f, refl)
+
+pub run : Determined cascade.Cascade.run.ended cascade.Cascade.run.Reads.Learnt
+run κs a r q s t e f = (e ∙ sym f, refl)
+
+pub tier : Determined cascade.Cascade.tier.ended cascade.Cascade.tier.Reads.Learnt
+tier κs a r q s t e f = (e ∙ sym f, refl)
+
+-- writing
+pub put-byte : Determined writing.put_byte.ended writing.put_byte.Reads.Learnt
+put-byte κs a r q s t e f = wrote e f
+
+pub put-three : Determined writing.put_three.ended writing.put_three.Reads.Learnt
+put-three κs a r q s t e f = wrote e f
+
+pub put-bytes : Determined writing.put_bytes.ended writing.put_bytes.Reads.Learnt
+put-bytes κs a r q s t e f = wrote e f
+
+pub digits-length : Determined writing.digits_length.ended writing.digits_length.Reads.Learnt
+digits-length κs a r q s t e f = (e .0 ∙ sym (f .0), refl)
+
+pub fill-digits : Determined writing.fill_digits.ended writing.fill_digits.Reads.Learnt
+fill-digits κs a r q s t e f = wrote e f
+
+pub put-digits : Determined writing.put_digits.ended writing.put_digits.Reads.Learnt
+put-digits κs a r q s t e f = wrote e f
+
+pub letter-of : Determined writing.letter_of.ended writing.letter_of.Reads.Learnt
+letter-of κs a r q s t e f = (e ∙ sym f, refl)
+
+-- entries
+pub put-reported : Determined entries.put_reported.ended entries.put_reported.Reads.Learnt
+put-reported κs a r q s t e f = wrote e f
+
+pub put-head : Determined entries.put_head.ended entries.put_head.Reads.Learnt
+put-head κs a r q s t e f = wrote e f
+
+pub reported-length : Determined entries.reported_length.ended entries.reported_length.Reads.Learnt
+reported-length κs a r q s t e f = (e ∙ sym f, refl)
+
+pub head-length : Determined entries.head_length.ended entries.head_length.Reads.Learnt
+head-length κs a r q s t e f = (e ∙ sym f, refl)
+
+-- printing
+pub put-printed : Determined printing.put_printed.ended printing.put_printed.Reads.Learnt
+put-printed κs a r q s t e f = wrote e f
+
+pub put-printed-head : Determined printing.put_printed_head.ended printing.put_printed_head.Reads.Learnt
+put-printed-head κs a r q s t e f = wrote e f
+
+pub put-refusal : Determined printing.put_refusal.ended printing.put_refusal.Reads.Learnt
+put-refusal κs a r q s t e f = wrote e f
+
+-- roll: what it returns, and its four columns
+module _ (book : List ℕ) (r q : Roll) (k l m n k′ l′ m′ n′ : List ℕ) where
+  same-roll : (v : Verdict) → Rolled book v k l m n r → Rolled book v k′ l′ m′ n′ q → r ≡ q
+  same-roll (Refused number place) e f = e ∙ sym f
+  same-roll (Accepted terms cs) e f = λ i. record { refusal = (e .0 ∙ sym (f .0)) i; count = (e .1 .counted ∙ sym (f .1 .counted)) i }
+
+pub read-roll : Determined roll.read_roll.ended roll.read_roll.Reads.Learnt
+read-roll κs a r q s t e f = (
+  same-roll (now (a .0)) r q _ _ _ _ _ _ _ _ (judge (now (a .0))) (e .rolled) (f .rolled),
+  ap (λ (c : Columns). (tt, (c .keys, (c .starts, (c .standings, (c .stakes, tt)))))) (e .filled ∙ sym (f .filled)),
+)
+
+-- report
+pub report-length : Determined report.report_length.ended report.report_length.Reads.Learnt
+report-length κs a r q s t e f = (e [] ∙ sym (f []), refl)
+
+pub put-sheet : Determined report.put_sheet.ended report.put_sheet.Reads.Learnt
+put-sheet κs a r q s t e f = wrote e f
+
+-- allotment
+pub list : Determined allotment.list.ended allotment.list.Reads.Learnt
+list κs a r q s t e f = (e .size ∙ sym (f .size), ap (λ out. (tt, (out, tt))) (e .buffer ∙ sym (f .buffer)))
+
+-- a contract that names the three numbers, and the bytes of the buffer that is lent second
+answered : {a : Answer01} {r q : Answer} {entry x y : List ℕ} → Answered a r entry x → Answered a q entry y →
+    (r ≡ q) × (_≡_ {A = Unit {0} × (List ℕ × Unit {0})} (tt, (x, tt)) (tt, (y, tt)))
+answered e f = (
+  λ i. record { number = (e .number ∙ sym (f .number)) i; place = (e .place ∙ sym (f .place)) i; length = (e .length ∙ sym (f .length)) i },
+  ap (λ out. (tt, (out, tt))) (e .buffer ∙ sym (f .buffer)),
+)
+
+pub allot : Determined allotment.allot.ended allotment.allot.Reads.Learnt
+allot κs a r q s t e f = answered e f
+
+pub frundavel-allot : Determined allotment.frundavel_allot.ended allotment.frundavel_allot.Reads.Learnt
+frundavel-allot κs a r q s t e f = answered e f

@@ -1,0 +1,152 @@
+#!/usr/bin/env python3
+"""Runs the worked lines of RULES.md through a program: docs/rules.py target/cargo/release/second, or another program.
+
+What must come out is read from the page; the books are made here, in the order of the page's lines."""
+import pathlib
+import re
+import subprocess
+import sys
+
+PAGE = (pathlib.Path(__file__).parent / "RULES.md").read_text()
+
+
+def field(tag, value=""):
+    return tag.encode() + bytes(divmod(len(value), 256)) + value.encode()
+
+
+def terms(d="D", s="400.00", l="8.000", u="8.000", v="4.000"):
+    return field("D", d) + field("S", s) + field("L", l) + field("U", u) + field("V", v)
+
+
+def customer(code, k="0", h="0", q="0", *trades):
+    return field("C", code) + field("K", k) + field("H", h) + field("Q", q) + b"".join(field(t, v) for t, v in trades)
+
+
+def rows(heading):
+    """The cells of the first table under a heading, without its two top lines."""
+    table = re.search(rf"^## {heading}$.*?^(\|.*?)\n\n", PAGE, re.M | re.S).group(1)
+    return [[cell.strip() for cell in line.strip("|").split("|")] for line in table.split("\n")[2:]]
+
+
+def hexed(heading):
+    """The bytes of the first block of code under a heading, from its second column, and each line's place."""
+    lines = re.search(rf"^###? {heading}$.*?^```\n(.*?)^```", PAGE, re.M | re.S).group(1).split("\n")[1:-1]
+    return [(int(line[:5]), bytes.fromhex(re.match(r"((?:[0-9a-f]{2} )+)", line[7:] + " ").group(1))) for line in lines]
+
+
+GOLD, END = terms(), field("Z")
+LACKING = customer("A", "5", "0", "0", ("B", "400.00 4"))
+CROWD = [customer(str(1000 + i)) for i in range(256)]
+
+REFUSED = [
+    b"",
+    b"a" * 60001,
+    bytes(60000),
+    GOLD[:-1],
+    GOLD,
+    GOLD + b"X\0\1",
+    GOLD + b"X\0\0",
+    GOLD + field("V", "4.000"),
+    GOLD + field("B", "400.00 1"),
+    GOLD + field("C", "A") + field("H", "0"),
+    GOLD + customer("A")[:-4] + END,
+    GOLD + END + b"a",
+    GOLD + field("Z", "a") + b"a",
+    [terms(s="400,00") + END, terms(s="x,") + END],
+    terms(d=",") + END,
+    GOLD + field("C", "A" * 44) + END,
+    terms(u="4.000") + END,
+    terms(u="4.000", v="4.0") + END,
+    GOLD + customer("A") + customer("B") + customer("A") + END,
+    GOLD + customer("A", "5", "9", "6") + END,
+    GOLD + LACKING + END,
+    GOLD + customer("B") + LACKING + customer("C") + END,
+    GOLD + LACKING,
+    GOLD + LACKING + field("K", "1"),
+    GOLD + LACKING + field("A", ", 1"),
+    GOLD + LACKING + field("C", "a"),
+    GOLD + LACKING + customer("A") + END,
+    GOLD + LACKING + field("Z", "a"),
+    GOLD + b"".join(CROWD) + field("C"),
+    GOLD + b"".join(CROWD) + b"C\0\1",
+    GOLD + b"".join(CROWD[:-1]) + customer("1255", "5") + field("C"),
+]
+
+
+def figures():
+    """Good and bad figures: a book for each, and what it must come to."""
+    places = {"price": 4, "rate": 13, "lots": 41}
+    table = re.search(r"^\| \| Good .*?\n\n", PAGE, re.M | re.S).group(0).strip().split("\n")[2:]
+    for line in table:
+        kind, good, bad = [cell.strip() for cell in line.strip("|").split("|")]
+        make = {
+            "price": lambda v: terms(s=v) + END,
+            "rate": lambda v: terms(l=v) + END,
+            "lots": lambda v: GOLD + customer("A", v, v, "0") + END,
+        }[kind]
+        for v in re.findall(r"`([^`]*)`", good):
+            yield make(v), "total 0\nleft 0\n" + ("A N 0\n" if kind == "lots" else "")
+        for v in re.findall(r"`([^`]*)`", bad):
+            yield make(v), f"refused {4 if ',' in v else 5} at {places[kind]}\n"
+    for v in "400.00  1", "400.00 1 ", "400.00", "400.00 0":
+        assert f"`{v}`" in PAGE, v
+        yield GOLD + customer("A", "0", "0", "0", ("B", v)) + END, "refused 5 at 53\n"
+
+
+def standings():
+    """Section 9: a position of 10 lots for each line, its total gain, and its standing."""
+    for position, price, total, times, standing in rows("9. Standing"):
+        fen = round(float(price) * 100)
+        long = position.startswith("long")
+        gain = (40000 - fen if long else fen - 40000) * 10
+        assert (total, times) == (f"{gain:,}", f"{gain * 100000:,}"), (price, gain)
+        q = "0" if not long or "Q 0" in position else "10"
+        trade = ("B" if long else "A", f"{price} 10")
+        group = customer("A", "10" if long else "0", "0" if long else "10", q, trade)
+        left = 10 if standing[0] == "P" else 0
+        yield GOLD + group + END, f"total 0\nleft {left}\nA {standing[0]} 0\n"
+    back = customer("A", "17", "2", "15", ("B", "450.00 10"), ("A", "300.00 2"), ("B", "420.00 10"))
+    yield GOLD + back + END, "total 0\nleft 0\nA N 0\n"
+
+
+def divisions():
+    """Section 10: one customer has all lots pending, and the members are in tier 1."""
+    for line in re.findall(r"^- (\d+ over .*?)(?=\n- |\n\n)", PAGE, re.M | re.S):
+        line = " ".join(line.split())
+        x, members, shares = re.match(r"(\d+) over (.*?): .*[:.] (\w+ \d+(?:, \w+ \d+)*)\.$", line).groups()
+        weights = [(c, int(w.replace(",", ""))) for c, w in re.findall(r"\b([A-Z]\w*) (\d[\d,]*\d|\d)", members)]
+        offers = b"".join(customer(c, "0", str(w), "0", ("A", f"440.00 {w}")) for c, w in weights)
+        book = GOLD + customer("ZZ", x, "0", x, ("B", f"440.00 {x}")) + offers + END
+        lots = dict(share.split() for share in shares.split(", "))
+        yield book, f"total {x}\nleft 0\nZZ P {x}\n" + "".join(f"{c} 1 {lots[c]}\n" for c, w in weights)
+
+
+def whole_book():
+    """The book byte by byte: its places, and its listing in section 14. The report's places and length too."""
+    for heading, length in ("A book byte by byte", 96), ("12. The report", 34):
+        at = 0
+        for place, part in hexed(heading):
+            assert place == at and len(part) == 3 + part[1] * 256 + part[2], (heading, place)
+            at += len(part)
+        assert at == length, (heading, at)
+    listing = re.search(r"^## 14\..*?^```\n(.*?)^```", PAGE, re.M | re.S).group(1)
+    yield b"".join(part for _, part in hexed("A book byte by byte")), listing
+
+
+def refusals():
+    lines = rows("7. The order of judging")
+    assert len(lines) == len(REFUSED), (len(lines), len(REFUSED))
+    for (_, answer, _), books in zip(lines, REFUSED):
+        for book in books if isinstance(books, list) else [books]:
+            yield book, f"refused {answer}\n"
+
+
+passed = failed = 0
+for part in refusals, figures, standings, divisions, whole_book:
+    for book, wanted in part():
+        got = subprocess.run(sys.argv[1:], input=book, capture_output=True, check=True).stdout.decode()
+        passed, failed = passed + (got == wanted), failed + (got != wanted)
+        if got != wanted:
+            print(f"{part.__name__}: {book[:80]!r}\nwanted {wanted!r}\ngot    {got!r}")
+print(f"{passed} passed, {failed} failed")
+sys.exit(failed > 0)
