@@ -38,12 +38,14 @@ fn read_input(fd: i32, buffer: &mut [u8]) -> Input
     Input::Bytes(done)
 }
 
-// At most 60,001 bytes are read: one more than a book may have, so that a longer one is told.
+// One byte more than a book may have, so that a longer one is told.
+const MOST_READ: usize = rules::LONGEST_BOOK + 1;
+
 fn main() {
-    let mut buffer = [0u8; 60001];
+    let mut buffer = [0u8; MOST_READ];
     match read_input(libc::STDIN_FILENO, &mut buffer) {
         Input::Bytes(n) => {
-            let mut out = [0u8; 8192];
+            let mut out = [0u8; allotment::LISTING_ROOM];
             let m = allotment::list(&buffer[..n], &mut out);
             if !io::write_all(libc::STDOUT_FILENO, &out[..m]) {
                 os::fail(b"standard output");

@@ -44,7 +44,7 @@ allowed t =
     let a = answer (t .book) (length (t .entry)) in
     eqb (t .number) (a .number) && eqb (t .place) (a .place) && eqb (t .length) (a .length) && same (t .exit) (lent a (t .entry))
 
-same-self : (l : List ℕ) → same l l ≡ true
+pub same-self : (l : List ℕ) → same l l ≡ true
 same-self [] = refl
 same-self (x ∷ l) = rw (eq-eqb x x refl, same-self l) refl
 

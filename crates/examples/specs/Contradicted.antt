@@ -1,6 +1,6 @@
 -- Wrong answers to document 01's listing: the contract of `frundavel_allot` allows none of them. Computed.
 -- Assumes nothing.
-use Prim.Native.Nat.{ℕ}
+use Prim.Native.Nat.{ℕ, _-_}
 use Prim.Native.String.{String}
 use mathlib.Core.Path.{_≡_, refl, sym, ap, ap₂, _∙_}
 use mathlib.Core.List.{List, [], _∷_, _++_}
@@ -22,6 +22,7 @@ use Rattle.rules.specs.Cascade.{lineOf, quantity, after, cascade, outcome}
 use Rattle.rules.specs.Report.{field, digits, reported, report, listing}
 use Rattle.rules.specs.Answer.{answer}
 use Rattle.cases.specs.Case.{Holds, so}
+use Rattle.cases.specs.Tables.{gold, customer, book}
 use Rattle.cases.specs.Cases.{theListing}
 use Rattle.writing.specs.Written.{written-front}
 use Rattle.allotment.proofs as allotment
@@ -52,6 +53,13 @@ right = told "9" "1" "1" "3" "3" "6" "5"
 abbrev reports : String → List ℕ → Tried
 reports name shown = tried name sound (room 80) 0 0 (length shown) (shown ++ drop (length shown) (room 80))
 
+-- the same customer twice, without a position
+abbrev idle : List ℕ
+idle = customer "A" "0" "0" "0" []
+
+abbrev twice : List ℕ
+twice = book gold (idle ∷ idle ∷ [])
+
 -- the listing's report, so that a wrong one differs in its one respect
 pub right-allowed : Holds "the listing" (allowed (reports "the listing" right))
 unfolding answer figureOf openingOf isCode fieldsOf within step judge gainFrom totalGain standing leftOver rank shareOf share lineOf quantity after cascade outcome digits reported report
@@ -61,7 +69,7 @@ abbrev pub wrong : List Tried
 wrong =
     reports "the cascade is not run" (told "0" "10" "0" "0" "0" "0" "0")
     ∷ reports "tier 1 alone" (told "3" "7" "0" "1" "3" "2" "0")
-    ∷ reports "of equal remainders the larger code" (told "9" "1" "1" "4" "3" "5" "5")
+    ∷ reports "of equal remainders the larger code, or the grand total divided once" (told "9" "1" "1" "4" "3" "5" "5")
     ∷ tried "accepted, and nothing is written" sound (room 80) 0 0 0 (room 80)
     ∷ tried "the length is one short" sound (room 80) 0 0 72 (right ++ room 7)
     ∷ tried "a byte behind the report is altered" sound (room 80) 0 0 73 (right ++ room 6 ++ 0 ∷ [])
@@ -71,11 +79,16 @@ wrong =
     ∷ tried "number and place change places" comma (room 80) 13 4 0 (room 80)
     ∷ tried "refused, and a byte is altered" comma (room 80) 4 13 0 (0 ∷ room 79)
     ∷ tried "a comma is passed over" comma (room 80) 0 0 73 (right ++ room 7)
+    ∷ reports "all customers N" (field "T" (bytes "0") ++ field "R" (bytes "0") ++ line "W3" "N" "0" ++ line "P2" "N" "0" ++ line "W1" "N" "0" ++ line "P1" "N" "0" ++ line "W2" "N" "0")
+    ∷ tried "every book is too long" sound (room 80) 1 0 0 (room 80)
+    ∷ tried "bytes after Z are passed over" (sound ++ 0 ∷ []) (room 80) 0 0 73 (right ++ room 7)
+    ∷ tried "a code given before is told as one of no form" twice (room 80) 5 (length (book gold (idle ∷ [])) - 3) 0 (room 80)
+    ∷ tried "a code given before is passed over" twice (room 40) 0 0 34 (field "T" (bytes "0") ++ field "R" (bytes "0") ++ line "A" "N" "0" ++ line "A" "N" "0" ++ room 6)
     ∷ []
 
 pub contradicted : Contradicted wrong
 unfolding answer figureOf openingOf isCode fieldsOf within step judge gainFrom totalGain standing leftOver rank shareOf share lineOf quantity after cascade outcome digits reported report
-contradicted = none-given wrong (so & so & so & so & so & so & so & so & so & so & so & so & done)
+contradicted = none-given wrong (so & so & so & so & so & so & so & so & so & so & so & so & so & so & so & so & so & done)
 
 -- What the program's `list` leaves at the front of the buffer, as many bytes as it returns, is the listing: a refused book is not listed as one
 -- without customers.

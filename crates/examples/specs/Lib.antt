@@ -3,3 +3,5 @@ pub mod Listing
 pub mod Rearranged
 pub mod Allowed
 pub mod Contradicted
+pub mod Divided
+pub mod Cascaded
