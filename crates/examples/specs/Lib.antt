@@ -5,3 +5,4 @@ pub mod Allowed
 pub mod Contradicted
 pub mod Divided
 pub mod Cascaded
+pub mod Leaves

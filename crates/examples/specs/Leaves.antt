@@ -1,0 +1,70 @@
+-- Small answers that the published contracts of four leaf functions allow, where a wrong program of theirs shows no value in the prover's log: equal sides are
+-- not net long, and the larger side is; a refusal is handed on as it is, and a good figure has none; each standing has its letter; "8,000" has a comma.
+-- Assumes nothing.
+use Prim.Native.Nat.{ℕ}
+use Prim.Native.Char.{code}
+use mathlib.Core.Bool.{Bool, true, false}
+use mathlib.Core.Path.{_≡_, refl, _∙_, ap₂}
+use mathlib.Core.List.{List, [], _∷_}
+use contract.Lifetimes.{Lfts}
+use denote.Ref.{now}
+use denote.Triple.Entry.{Args, Res}
+use denote.Triple.Clauses.{AtExit}
+use Rattle.rules.specs.declared.Position.{Position}
+use Rattle.rules.specs.declared.Figure.{Figure}
+use Rattle.rules.specs.declared.Figure.the-variants.{Comma}
+use Rattle.rules.specs.declared.Standing.{Standing}
+use Rattle.rules.specs.declared.Standing.the-variants.{Pending, Tier1, Tier2, Tier3, Neither}
+use Rattle.rules.specs.Refusal as refusal
+use Rattle.rules.specs.Text.{bytes}
+use Rattle.rules.specs.Figures.{lots, rateForm, figureOf}
+use Rattle.fields.specs.declared.Refusal.{Refusal}
+use Rattle.fields.specs.declared.FigureAt.{FigureAt}
+use Rattle.fields.specs.declared.FigureAt.the-variants.{Value}
+use Rattle.fields.specs.declared.FigureAt.the-variants.{Refused as NoFigure}
+use Rattle.fields.specs.Reading.{refusedAt, noRefusal}
+use Rattle.gain.proofs as gain
+use Rattle.fields.proofs as fields
+use Rattle.writing.proofs as writing
+use Rattle.figures.proofs as figures
+
+abbrev holds : ℕ → ℕ → Position
+holds long short = record { long = lots long; short = lots short; unfilled = lots 0 }
+
+module _ (κs : Lfts 0) (a : Args gain.net_long.signature κs) (r : Bool) (s : AtExit gain.net_long.ended κs) (h : gain.net_long.Reads.Learnt κs a r s) where
+  pub equal-is-not-long : a .0 ≡ holds 1 1 → r ≡ false
+  equal-is-not-long e = h ∙ rw e refl
+
+  pub larger-is-long : a .0 ≡ holds 2 1 → r ≡ true
+  larger-is-long e = h ∙ rw e refl
+
+  pub smaller-is-not : a .0 ≡ holds 1 2 → r ≡ false
+  smaller-is-not e = h ∙ rw e refl
+
+module _ (κs : Lfts 0) (a : Args fields.refusal_in.signature κs) (r : Refusal) (s : AtExit fields.refusal_in.ended κs) (h : fields.refusal_in.Reads.Learnt κs a r s) where
+  pub handed-on : a .0 ≡ NoFigure (refusedAt refusal.comma 13) → r ≡ refusedAt refusal.comma 13
+  handed-on e = h ∙ rw e refl
+
+  pub none-in-a-figure : a .0 ≡ Value 8_000 21 → r ≡ noRefusal
+  none-in-a-figure e = h ∙ rw e refl
+
+module _ (κs : Lfts 0) (a : Args writing.letter_of.signature κs) (r : ℕ) (s : AtExit writing.letter_of.ended κs) (h : writing.letter_of.Reads.Learnt κs a r s) where
+  pub p : a .0 ≡ Pending → r ≡ code "P"
+  p e = h ∙ rw e refl
+
+  pub one : a .0 ≡ Tier1 → r ≡ code "1"
+  one e = h ∙ rw e refl
+
+  pub two : a .0 ≡ Tier2 → r ≡ code "2"
+  two e = h ∙ rw e refl
+
+  pub three : a .0 ≡ Tier3 → r ≡ code "3"
+  three e = h ∙ rw e refl
+
+  pub n : a .0 ≡ Neither → r ≡ code "N"
+  n e = h ∙ rw e refl
+
+module _ (κs : Lfts 1) (a : Args figures.read_figure.signature κs) (r : Figure) (s : AtExit figures.read_figure.ended κs) (h : figures.read_figure.Reads.Learnt κs a r s) where
+  pub a-comma : now (a .0) ≡ bytes "8,000" → a .1 .0 ≡ rateForm → r ≡ Comma
+  unfolding figureOf
+  a-comma e f = h ∙ ap₂ (λ v w. figureOf w v) e f
