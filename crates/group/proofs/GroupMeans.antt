@@ -20,9 +20,10 @@ use Rattle.trades.specs.declared.TradesAt.{TradesAt}
 use Rattle.trades.specs.declared.TradesAt.the-variants.{Closed, Refused}
 use Rattle.fields.specs.declared.Refusal.{Refusal}
 use Rattle.fields.specs.Reading.{refusedAt}
-use Rattle.trades.specs.Trades.{tradesFrom, oldestFrom}
+use Rattle.trades.specs.Trades.{tradesFrom}
 use Rattle.group.specs.Group.{started, closedAt, groupAt}
 use Rattle.group.specs.declared.GroupAt.the-variants.{Refused as NoGroup}
+use Rattle.trades.proofs.Oldest.{oldestFrom}
 use Rattle.trades.proofs.Runs.{Ends, Means, run-means}
 
 -- a customer with this position and no trade yet, whose C is at `place`, and the fields from `first` on

@@ -28,8 +28,8 @@ use Rattle.laws.specs.Groups.{Bad, closing, groupFrom}
 use Rattle.trades.specs.declared.TradesAt.{TradesAt}
 use Rattle.trades.specs.declared.TradesAt.the-variants.{Closed, Refused}
 use Rattle.fields.specs.Reading.{refusedAt}
-use Rattle.trades.specs.Trades.{opening, tradesFrom, oldestFrom}
-use Rattle.trades.proofs.Found.{oldest-zero}
+use Rattle.trades.specs.Trades.{opening, tradesFrom}
+use Rattle.trades.proofs.Oldest.{oldestFrom, oldest-zero}
 
 module _ (long : Bool) (s : Fen) (terms : Terms) (lastC : ℕ) where
   -- the group ends with a customer who has the trades of c and those of the fields

@@ -1,5 +1,5 @@
--- A customer's trades, as code goes over them: once from the oldest for the lots and the gain of all on a side, and again over the
--- oldest lots that do not count.
+-- A customer's trades, as code goes over them: once from the oldest for the lots and the gain of all on a side, and again over as many of
+-- the oldest lots as do not count.
 -- Assumes nothing.
 use Prim.Native.Nat.{ℕ, _+_, _-_, min}
 use mathlib.Core.List.{List, [], _∷_}
@@ -37,16 +37,20 @@ module _ (long : Bool) (s : Fen) where
       tradesFrom (at + 3 + length v) (opened + lotsOn long x) (gain +ℤ gainOf long s (x .price) (lotsOn long x)) fs)
       (Refused (refusedAt refusal.misplaced at)))
 
-  abbrev pub partOf : Opening → (Trade → ℤ) → ℤ
-  partOf (Made t) k = k t
-  partOf Comma k = pos 0
-  partOf Malformed k = pos 0
+  -- the same, until `left` lots on the side are taken
+  abbrev pub takenFrom : ℕ → ℕ → ℕ → ℤ → List Field → TradesAt
+  takenFrom left at taken gain [] = cond (eqb left 0) (Closed at taken gain) (Refused (refusedAt refusal.cutShort at))
+  takenFrom left at taken gain (Cut ∷ fs) = cond (eqb left 0) (Closed at taken gain) (Refused (refusedAt refusal.cutShort at))
+  takenFrom left at taken gain (Whole t v ∷ fs) =
+      cond (eqb left 0) (Closed at taken gain)
+      (cond (is "C" t || is "Z" t) (Closed at taken gain)
+      (cond (is "B" t || is "A" t)
+      (opening at (openingOf (is "B" t) v) λ x.
+      let n = min (lotsOn long x) left in
+      takenFrom (left - n) (at + 3 + length v) (taken + n) (gain +ℤ gainOf long s (x .price) n) fs)
+      (Refused (refusedAt refusal.misplaced at))))
 
-  -- the gain of the first `left` lots on the side
-  abbrev pub oldestFrom : ℕ → List Field → ℤ
-  oldestFrom left [] = pos 0
-  oldestFrom left (Cut ∷ fs) = pos 0
-  oldestFrom left (Whole t v ∷ fs) =
-      cond (eqb left 0) (pos 0)
-      (partOf (openingOf (is "B" t) v) λ x.
-      gainOf long s (x .price) (min (lotsOn long x) left) +ℤ oldestFrom (left - min (lotsOn long x) left) fs)
+-- the gain that was summed up, where the trades are good
+abbrev pub gainIn : TradesAt → ℤ
+gainIn (Closed place taken gain) = gain
+gainIn (Refused r) = pos 0

@@ -6,7 +6,7 @@ use mathlib.Core.List.{List}
 use mathlib.Core.Bool.{Bool}
 use native.Mathlib.Omega.{arith}
 use lib.ListN.{drop}
-use lib.IntN.{ℤ, pos, natAbs, _-ℤ_}
+use lib.IntN.{ℤ, pos, natAbs, _-ℤ_, +ℤ-idl}
 use mir.Syntax.{w64}
 use mir.Val.{SFits, toZ, ofZ}
 use Rattle.rules.specs.Fields.{Field, fieldsOf}
@@ -14,7 +14,8 @@ use Rattle.rules.specs.Book.{net, netLong}
 use Rattle.rules.specs.Standing.{standingAt}
 use Rattle.laws.specs.Exact.{of-int, op-fits, of-op}
 use Rattle.trades.specs.declared.TradesAt.the-variants.{Closed}
-use Rattle.trades.specs.Trades.{tradesFrom, oldestFrom}
+use Rattle.trades.specs.Trades.{tradesFrom, takenFrom, gainIn}
+use Rattle.trades.proofs.Oldest.{oldestFrom, taken-gain}
 use Rattle.group.specs.Group.{closedAt}
 use Rattle.group.proofs.GroupMeans.{summed, group-refused, group-uncovered, total, total-size, group-closed}
 use borrow.Author.Needs.{needs}
@@ -64,10 +65,14 @@ module _ (c : tie.After-oldest-gain) where
 
   oldest-is : c .oldest-gain .result ≡ oldestFrom (netLong (begun .args .position)) (begun .args .terms .settlement) (opened ended - net (begun .args .position)) (fields (ended .before .before))
   oldest-is =
+      let a = begun .args in
+      let fs = fields (ended .before .before) in
       c .oldest-gain .ensures
-      ∙ ap₂ (λ (b : Bool) (n : ℕ). oldestFrom b (begun .args .terms .settlement) (opened ended - n) (fields (ended .before .before)))
+      ∙ ap₂ (λ (b : Bool) (n : ℕ). gainIn (takenFrom b (a .terms .settlement) (opened ended - n) (a .first) 0 (pos 0) fs))
       (ended .before .before .before .net-long .ensures)
       (c .before .before .before .before .net-of .ensures)
+      ∙ taken-gain (netLong (a .position)) (a .terms .settlement) fs (opened ended - net (a .position)) (a .first) 0 (pos 0) (a .first) 0 (pos 0) (place ended) (opened ended) (gain ended) (closed ended) (omega arith)
+      ∙ +ℤ-idl (oldestFrom (netLong (a .position)) (a .terms .settlement) (opened ended - net (a .position)) fs)
 
   size : natAbs owed ≤ 9999999 * net (begun .args .position)
   size =
