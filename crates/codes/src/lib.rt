@@ -10,6 +10,9 @@ pub enum Code {
     Malformed,
 }
 
+// How many places there are for marks.
+pub const MARKS: usize = 2_048;
+
 // 37 to the 12, and down to 1.
 const POWERS: [u64; 13] = [
     6_582_952_005_840_035_281,
@@ -104,15 +107,15 @@ pub fn given(keys: &[u64], count: usize, key: u64) -> bool
     found
 }
 
-// Where a key's mark stands. 4,093 is prime: codes that are numbered in a row seldom share a place, as they do modulo 4,096.
+// Where a key's mark stands. 2,039 is prime: codes that are numbered in a row seldom share a place, as they do modulo 2,048.
 pub fn mark_of(key: u64) -> usize
     ensures { λ r. ⌜ r ≡ markOf key ⌝ }
 {
-    (key % 4_093) as usize
+    (key % 2_039) as usize
 }
 
 // Whether this key is among the first `count`, which all have their marks: the keys are looked through only where its place is marked.
-pub fn known(keys: &[u64], marks: &[u8; 4096], count: usize, key: u64) -> bool
+pub fn known(keys: &[u64], marks: &[u8; MARKS], count: usize, key: u64) -> bool
     requires { ⌜ count ≤ length (now keys) ⌝ ∗ ⌜ Marked (now keys) (now marks) count ⌝ }
     ensures { λ r. ⌜ r ≡ givenIn (take count (now (keys .entry))) key ⌝ }
 {

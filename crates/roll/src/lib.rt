@@ -81,7 +81,7 @@ fn stake_of(standing: Standing, offered: u32, pending: u32) -> u32
 fn code_at(
     book: &[u8],
     keys: &[u64],
-    marks: &[u8; 4096],
+    marks: &[u8; codes::MARKS],
     count: usize,
     at: usize,
     start: usize,
@@ -118,7 +118,7 @@ fn customer_at(
     book: &[u8],
     terms: Terms,
     keys: &[u64],
-    marks: &[u8; 4096],
+    marks: &[u8; codes::MARKS],
     count: usize,
     at: usize,
     start: usize,
@@ -194,7 +194,7 @@ fn read_customers(
     requires { ⌜ Short (now book) ⌝ ∗ ⌜ Sound terms ⌝ ∗ ⌜ Room (now keys) (now starts) (now standings) (now stakes) ⌝ }
     ensures { λ r. ⌜ Left (now (book .entry)) (verdictFrom terms first (fieldsOf (drop first (now (book .entry))))) (filledFrom mostCustomers (now (book .entry)) terms first 0 (columns (now (keys .entry)) (now (starts .entry)) (now (standings .entry)) (now (stakes .entry)))) (now (keys .exit)) (now (starts .exit)) (now (standings .exit)) (now (stakes .exit)) r ⌝ }
 {
-    let mut marks = [0u8; 4096];
+    let mut marks = [0u8; codes::MARKS];
     let mut count: usize = 0;
     let mut at = first;
     loop {
