@@ -68,7 +68,7 @@ typedef struct frundavel_answer {
  * - `book` and `report` must not overlap, and must be good for `size` and `room` bytes. A null pointer with length 0 is an empty part.
  *   Any bytes may stand in the book.
  * - The call keeps nothing, allocates nothing and calls nothing but memcpy, memmove and memset. It may be called from several threads
- *   at once. It takes less than 48 KiB of the calling thread's stack.
+ *   at once. It takes at most 14,336 bytes of the calling thread's stack (measured, and held by a test; docs/BENCHMARKS.md).
  */
 frundavel_answer frundavel_allot(const uint8_t *book, size_t size, uint8_t *report, size_t room);
 
