@@ -29,6 +29,8 @@ extern "C" {
  *          3 + 1     standing
  *          3 + 7     at most 1,000,000 lots, 7 digits
  * 12 + 12 + 256 x 29 = 7448
+ * That no report is longer, and that a call with this room never answers 11, is proved (crates/promises/specs/Room.antt: report-fits,
+ * room-enough).
  */
 #define FRUNDAVEL_ROOM (12 + 12 + 256 * (15 + 4 + 10))
 

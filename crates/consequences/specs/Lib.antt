@@ -18,3 +18,4 @@ pub mod PutTogether
 pub mod DistinctPicks
 pub mod Accepted
 pub mod Rearrange
+pub mod ReportLength

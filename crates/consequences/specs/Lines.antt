@@ -2,7 +2,7 @@
 -- pending. So what holds of the cascade of such lines holds of the outcome of the customers.
 -- Assumes nothing.
 use Prim.Native.Nat.{ℕ, _<_}
-use mathlib.Core.Path.{_≡_, refl, ap, subst}
+use mathlib.Core.Path.{_≡_, refl, ap, subst, _∙_}
 use mathlib.Core.Bool.{false}
 use mathlib.Core.List.{List, map, List·Memᴰ, Memᴰ·of-map}
 use native.Mathlib.Omega.{arith}
@@ -21,7 +21,7 @@ use Rattle.laws.specs.Sane.{codeIn, accepted-sane}
 use Rattle.consequences.specs.Tiers.{distinct-map}
 use Rattle.consequences.specs.Offsets.{isPending}
 use Rattle.consequences.specs.Balance.{Fresh, Balanced, balanced}
-use Rattle.consequences.specs.Within.{Within, within}
+use Rattle.consequences.specs.Within.{Within, within, as-many}
 
 none-pending : (s : Standing) (p : Position) → isPending s ≡ false → pendingBy s p ≡ 0
 none-pending Pending p e = absurd (omega (arith, ap oneIf e))
@@ -59,6 +59,11 @@ module _ (terms : Terms) (cs : List Customer) (d : Distinct codeIn cs) where
   unfolding outcome
   outcome-within i none h =
       rw (getD-in (lineOf terms) cs i none nobody h) at (within lines lines-fresh i (rw (length-map cs (lineOf terms)) h))
+
+-- a line for each customer
+pub lines-many : (terms : Terms) (cs : List Customer) → length (outcome terms cs .lines) ≡ length cs
+unfolding outcome
+lines-many terms cs = as-many (map (lineOf terms) cs) ∙ length-map cs (lineOf terms)
 
 -- the customers of an accepted book are such
 module _ (s : List ℕ) (terms : Terms) (cs : List Customer) (e : judge s ≡ Accepted terms cs) where

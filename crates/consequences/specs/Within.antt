@@ -26,6 +26,14 @@ pub record Within (before after : Line) : Type 0 where
   pub offered : isPending (before .standing) ≡ false → after .offset ≤ before .offered
   pub neither : before .standing ≡ Neither → after .offset ≡ 0
 
+-- nobody's offset exceeds what it has pending and offers
+pub within-stake : (s : Standing) (before after : Line) → before .standing ≡ s → Within before after → after .offset ≤ before .pending + before .offered
+within-stake Pending before after e w = omega (arith, w .pending e)
+within-stake Tier1 before after e w = omega (arith, w .offered (ap isPending e))
+within-stake Tier2 before after e w = omega (arith, w .offered (ap isPending e))
+within-stake Tier3 before after e w = omega (arith, w .offered (ap isPending e))
+within-stake Neither before after e w = omega (arith, w .offered (ap isPending e))
+
 -- a line offers in one tier at most
 offered-once : (s : Standing) (n : ℕ) → cond (eqb (tierOf s) 1) n 0 + cond (eqb (tierOf s) 2) n 0 + cond (eqb (tierOf s) 3) n 0 ≤ n
 offered-once Pending n = omega arith

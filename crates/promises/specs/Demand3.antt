@@ -5,7 +5,7 @@ use Prim.Native.Nat.{ℕ, _+_, _≤_, _<_}
 use Prim.Native.Char.{code}
 use mathlib.Core.Path.{_≡_, refl, sym, ap, ap₂, _∙_}
 use mathlib.Core.List.{List, [], _∷_, _++_, map}
-use lib.ListN.{length, getD, drop, length-append, length-map}
+use lib.ListN.{length, getD, drop, length-append}
 use native.Mathlib.Omega.{arith}
 use Rattle.rules.specs.Fields.{Field, Whole, fieldsOf}
 use Rattle.rules.specs.Book.{Customer}
@@ -14,8 +14,7 @@ use Rattle.rules.specs.Report.{digits, field, joined, reported, report}
 use Rattle.rules.specs.Answer.{answer}
 use Rattle.consequences.specs.Rearranged.{partsOf, together, picked, rearranged, Below, nobody, Chosen}
 use Rattle.consequences.specs.Picks.{sum-chosen-le}
-use Rattle.consequences.specs.Within.{as-many}
-use Rattle.consequences.specs.Lines.{book-within}
+use Rattle.consequences.specs.Lines.{lines-many, book-within}
 use Rattle.consequences.specs.Chosen.{pickedOf, chosen-after, outcome-chosen}
 use Rattle.consequences.specs.Framed.{parts-together}
 use Rattle.consequences.specs.Accepted.{groups-of-customers, group-begins}
@@ -59,10 +58,6 @@ module _ (s : List ℕ) (room : ℕ) (f : Fits s room) where
   unfolding outcomeOf
   outcome-is = rw (f .judged)
 
-  lines-many : length (outcome (f .terms) (f .customers) .lines) ≡ length (f .customers)
-  unfolding outcome
-  lines-many = as-many (map (lineOf (f .terms)) (f .customers)) ∙ length-map (f .customers) (lineOf (f .terms))
-
   module _ (is : List ℕ) (c : Chosen (outcome (f .terms) (f .customers) .lines) is) where
     some : List Customer
     some = picked noCustomer (f .customers) is
@@ -77,7 +72,7 @@ module _ (s : List ℕ) (room : ℕ) (f : Fits s room) where
         record {
           terms = f .terms;
           customers = some;
-          judged = rearranged-accepted s (f .terms) (f .customers) (f .judged) is (rw lines-many at (c .below)) (c .once) noCustomer;
+          judged = rearranged-accepted s (f .terms) (f .customers) (f .judged) is (rw (lines-many (f .terms) (f .customers)) at (c .below)) (c .once) noCustomer;
           room-enough = rw outcome-some (omega (arith, report-shorter (outcome (f .terms) (f .customers)) is c, f .room-enough));
         }
 
@@ -106,7 +101,7 @@ unfolding lineOf
 accepted-parted s room h =
     let f = accepted-fits s room h in
     let e = f .judged in
-    let many : length (outcomeOf s .lines) ≡ length (f .customers) = ap (λ (o : Outcome). length (o .lines)) (outcome-is s room f) ∙ lines-many s room f in
+    let many : length (outcomeOf s .lines) ≡ length (f .customers) = ap (λ (o : Outcome). length (o .lines)) (outcome-is s room f) ∙ lines-many (f .terms) (f .customers) in
     record {
       whole = parts-together s;
       as-many = groups-of-customers s (f .terms) (f .customers) e ∙ sym many;

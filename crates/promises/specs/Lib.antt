@@ -13,6 +13,7 @@ pub mod Refused
 pub mod Numbers
 pub mod Demands
 pub mod Demand3
+pub mod Room
 pub mod Fair
 pub mod Statement
 pub mod Stated

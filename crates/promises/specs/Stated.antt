@@ -5,7 +5,7 @@ use Prim.Native.Char.{Char, code}
 use mathlib.Core.Path.{_≡_, refl, sym, ap, ap₂, _∙_}
 use mathlib.Core.Bool.{true, false, cond}
 use mathlib.Core.List.{List, [], _∷_, _++_, map}
-use lib.ListN.{length, getD, take, drop, length-map}
+use lib.ListN.{length, getD, take, drop}
 use lib.Seq.{take-at}
 use lib.Dec.{eqb}
 use borrow.Author.Tests.{eqb-true, eq-eqb}
@@ -27,8 +27,8 @@ use Rattle.laws.specs.Sane.{codeIn}
 use Rattle.laws.specs.Indices.{getD-in}
 use Rattle.consequences.specs.Offsets.{isPending, closedBy, givenIn}
 use Rattle.consequences.specs.Balance.{Balanced}
-use Rattle.consequences.specs.Within.{Within, as-many, codes-cascade}
-use Rattle.consequences.specs.Lines.{book-balanced, book-within}
+use Rattle.consequences.specs.Within.{Within, within-stake, codes-cascade}
+use Rattle.consequences.specs.Lines.{lines-many, book-balanced, book-within}
 use Rattle.rules.specs.Report.{digits, letter, field, joined, reported, report}
 use Rattle.laws.specs.ByTest.{by-test}
 use Rattle.laws.specs.Digits.{number-digits}
@@ -130,14 +130,6 @@ tier-offers Tier2 p h = (refl, refl)
 tier-offers Tier3 p h = (refl, refl)
 tier-offers Neither p h = absurd (omega arith)
 
--- a line before the cascade and after it: nobody's offset exceeds what it has pending and offers
-within-stake : (s : Standing) (before after : Line) → before .standing ≡ s → Within before after → after .offset ≤ before .pending + before .offered
-within-stake Pending before after e w = omega (arith, w .pending e)
-within-stake Tier1 before after e w = omega (arith, w .offered (ap isPending e))
-within-stake Tier2 before after e w = omega (arith, w .offered (ap isPending e))
-within-stake Tier3 before after e w = omega (arith, w .offered (ap isPending e))
-within-stake Neither before after e w = omega (arith, w .offered (ap isPending e))
-
 module _ (book : List ℕ) (terms : Terms) (cs : List Customer) (e : judge book ≡ Accepted terms cs) where
   abbrev o : Outcome
   o = outcome terms cs
@@ -161,13 +153,9 @@ module _ (book : List ℕ) (terms : Terms) (cs : List Customer) (e : judge book 
   within-at : (i : ℕ) → i < length cs → Within (start i) (end i)
   within-at i h = book-within book terms cs e i noCustomer h
 
-  as-many-lines : length (o .lines) ≡ length cs
-  unfolding outcome
-  as-many-lines = as-many (map (lineOf terms) cs) ∙ length-map cs (lineOf terms)
-
   entry-at : (i : ℕ) → i < length cs → getD (t .entries) i noEntry ≡ entryOf (end i)
   unfolding toldOf
-  entry-at i h = getD-in entryOf (o .lines) i nobody _ (rw as-many-lines h)
+  entry-at i h = getD-in entryOf (o .lines) i nobody _ (rw (lines-many terms cs) h)
 
   lots-at : (i : ℕ) → i < length cs → lotsAt t i ≡ end i .offset
   unfolding entryOf
@@ -215,7 +203,7 @@ module _ (book : List ℕ) (terms : Terms) (cs : List Customer) (e : judge book 
   all-given : (k : ℕ) → 0 < k → sumOf (givenIn k) (o .lines) ≡ sumOf (offeredIn k) (map (lineOf terms) cs) → (i : ℕ) → i < length cs → givenIn k (end i) ≡ offeredIn k (start i)
   all-given k pos q =
       upTo-tight (λ i. givenIn k (end i)) (λ i. offeredIn k (start i)) (length cs) (given-at-most k pos)
-      (rw as-many-lines at (sum-index (givenIn k) nobody (o .lines)) ∙ q ∙ sum-map (offeredIn k) (lineOf terms) cs ∙ sym (sum-index (λ c. offeredIn k (lineOf terms c)) _ cs))
+      (rw (lines-many terms cs) at (sum-index (givenIn k) nobody (o .lines)) ∙ q ∙ sum-map (offeredIn k) (lineOf terms) cs ∙ sym (sum-index (λ c. offeredIn k (lineOf terms c)) _ cs))
 
   gave-all : (tier : Char) (k : ℕ) → Letter tier k → 0 < k → sumOf (givenIn k) (o .lines) ≡ sumOf (offeredIn k) (map (lineOf terms) cs) → GaveAll cs t tier
   unfolding lineOf
