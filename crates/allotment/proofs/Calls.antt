@@ -8,6 +8,7 @@ use native.Mathlib.Nat.{zero-add}
 use borrow.Author.Tests.{lt-ltb, le-ltb}
 use lib.ListN.{length}
 use Rattle.rules.specs.declared.Terms.{Terms}
+use Rattle.rules.specs.Refusal as refusal
 use Rattle.rules.specs.Book.{Customer, Verdict, Refused, Accepted, judge}
 use Rattle.rules.specs.Report.{listingOf, listing}
 use Rattle.rules.specs.Answer.{fitted, answerOf, answer}
@@ -125,10 +126,10 @@ refused-so n place entry = record { number = refl; place = refl; length = refl; 
 
 -- 11, and no 11
 pub too-small : (r entry : List ℕ) (needed : ℕ) → needed ≡ length r → length entry < needed →
-    Answered (fitted (length entry) r) (record { number = 11; place = needed; length = 0 }) entry entry
+    Answered (fitted (length entry) r) (record { number = refusal.noRoom; place = needed; length = 0 }) entry entry
 too-small r entry needed e h =
-    let f : fitted (length entry) r ≡ refused01 11 needed = rw (lt-ltb (length entry) (length r) (omega arith)) (ap (refused01 11) (sym e)) in
-    rw f (refused-so 11 needed entry)
+    let f : fitted (length entry) r ≡ refused01 refusal.noRoom needed = rw (lt-ltb (length entry) (length r) (omega arith)) (ap (refused01 refusal.noRoom) (sym e)) in
+    rw f (refused-so refusal.noRoom needed entry)
 
 pub fits : (r entry exit : List ℕ) (next : ℕ) → length r ≤ length entry → exit ≡ written 0 r entry → next ≡ 0 + length r →
     Answered (fitted (length entry) r) (record { number = 0; place = 0; length = next }) entry exit

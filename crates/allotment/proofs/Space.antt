@@ -1,19 +1,19 @@
 -- Every listing fits 8,192 bytes: there are at most 256 lines, each of a code of at most 12, an offset of at most 10 digits and 4 bytes
 -- more; and the two lines before them have at most 33.
 -- Assumes nothing.
-use Prim.Native.Nat.{ℕ, zero, suc, _+_, _-_, _*_, _^_, _≤_, _<_}
-use mathlib.Core.Path.{_≡_, refl, sym, ap, _∙_}
+use Prim.Native.Nat.{ℕ, zero, suc, _+_, _*_, _≤_, _<_}
+use mathlib.Core.Path.{_≡_, sym, ap, _∙_}
 use mathlib.Core.List.{List, [], _∷_, _++_, map}
 use native.Mathlib.Omega.{arith}
 use native.Mathlib.Nat.{le-refl}
-use lib.ListN.{length, getD, take, drop, length-append, length-take}
+use lib.ListN.{length, getD, length-append, length-take}
 use Rattle.rules.specs.declared.Terms.{Terms}
+use Rattle.rules.specs.Limits.{longestCode}
 use Rattle.rules.specs.Book.{Customer}
-use Rattle.rules.specs.Division.{sumOf}
-use Rattle.rules.specs.Cascade.{Line, pendingOf}
+use Rattle.rules.specs.Cascade.{Line}
 use Rattle.rules.specs.Report.{digits, joined, printed}
-use Rattle.laws.specs.Sums.{upTo, sum-map}
-use Rattle.laws.specs.Indices.{map-more, sum-bound}
+use Rattle.laws.specs.Sums.{upTo}
+use Rattle.laws.specs.Indices.{map-more}
 use Rattle.laws.specs.Digits.{digits-length-10}
 use Rattle.laws.specs.Sane.{Customers}
 use Rattle.cascade.specs.Columns.{Columns, columns}
@@ -21,7 +21,7 @@ use Rattle.cascade.specs.State.{afterAll, Steady}
 use Rattle.cascade.specs.After.{steady-all, pending-le}
 use Rattle.roll.specs.Roll.{Held, Room}
 use Rattle.writing.specs.Shown.{joined-append}
-use Rattle.printing.specs.Printed.{printed-length, listedHead, listed-head-length}
+use Rattle.printing.specs.Printed.{printed-length, listed-head-length}
 use Rattle.report.specs.Sheet.{codeAt, lineAt, sheetBytes, listingBytes}
 use Rattle.allotment.specs.Worked.{listingRoom, atFirst}
 use Rattle.allotment.proofs.Start.{start-steady}
@@ -44,14 +44,14 @@ module _ {book : List ℕ} (terms : Terms) {cs : List Customer} {keys starts sta
   first : Steady 0 c atFirst
   first = start-steady terms k h r
 
-  steady : Steady 3072000000 c (afterAll c atFirst)
+  steady : Steady 3_072_000_000 c (afterAll c atFirst)
   steady = steady-all c atFirst first
 
   line-most : (i : ℕ) → i < count → length (printed (lineAt (page terms k h) i)) ≤ 26
   line-most i l =
       let p = placed terms k h r .code i l in
       let d : length (digits (getD (afterAll c atFirst .offset) i 0)) ≤ 10 = digits-length-10 _ (omega (arith, steady .offset i l)) in
-      let n : length (codeAt book starts i) ≤ 12 = simp length-take (omega (arith, p .short)) in
+      let n : length (codeAt book starts i) ≤ longestCode = simp length-take (omega (arith, p .short)) in
       omega (arith, printed-length (lineAt (page terms k h) i))
 
   pub listing-room : length (listingBytes (page terms k h)) ≤ listingRoom

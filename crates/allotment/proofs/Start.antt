@@ -15,6 +15,7 @@ use Rattle.rules.specs.declared.Standing.{Standing}
 use Rattle.rules.specs.declared.Standing.the-variants.{Pending, Tier1, Tier2, Tier3, Neither}
 use Rattle.rules.specs.Codes.{isCode}
 use Rattle.rules.specs.Figures.{lots}
+use Rattle.rules.specs.Limits.{mostCustomers, longestCode}
 use Rattle.rules.specs.Book.{Customer}
 use Rattle.rules.specs.Standing.{standing}
 use Rattle.rules.specs.Cascade.{Line, lineOf, offeredBy, pendingBy}
@@ -65,7 +66,7 @@ pending-back Tier2 p = refl
 pending-back Tier3 p = refl
 pending-back Neither p = refl
 
-stake-le : (s : Standing) {c : Customer} → Sane c → stakeAs s (offeredBy s (c .position)) (pendingBy s (c .position)) ≤ 4000000
+stake-le : (s : Standing) {c : Customer} → Sane c → stakeAs s (offeredBy s (c .position)) (pendingBy s (c .position)) ≤ 4_000_000
 stake-le Pending w = omega (arith, w .long, w .short)
 stake-le Tier1 w = omega (arith, w .long, w .short)
 stake-le Tier2 w = omega (arith, w .long, w .short)
@@ -77,8 +78,8 @@ column-at : (f : Customer → ℕ) (cs : List Customer) (a : List ℕ) {count : 
 column-at f cs a {count} n e i h =
     sym (getD-take count a i 0 h) ∙ ap (λ (l : List ℕ). getD l i 0) e ∙ getD-in f cs i nobody 0 (omega arith)
 
-zero-at : (i : ℕ) → i < 256 → getD (atFirst .offset) i 0 ≡ 0
-zero-at i h = getD-replicate {A = ℕ} 256 i 0 0 h
+zero-at : (i : ℕ) → i < mostCustomers → getD (atFirst .offset) i 0 ≡ 0
+zero-at i h = getD-replicate {A = ℕ} mostCustomers i 0 0 h
 
 module _ (terms : Terms) where
   line-coded : (cs : List Customer) → AllSane cs → (l : Line) → List·Memᴰ l (map (lineOf terms) cs) → isCode (l .code) ≡ true
@@ -96,7 +97,7 @@ module _ (terms : Terms) where
     abbrev cols : Columns
     cols = columns keys standings stakes count
 
-    pub few : count ≤ 256
+    pub few : count ≤ mostCustomers
     few = omega (arith, h .counted, k .few)
 
     standing-at : (i : ℕ) → i < count → standingOf (getD standings i 0) ≡ standing terms (at cs i)
@@ -146,7 +147,7 @@ module _ (terms : Terms) where
           keyed = omega (arith, few, r .for-keys);
           stood = omega (arith, few, r .for-standings);
           staked = omega (arith, few, r .for-stakes);
-          wide = omega (arith, few, length-replicate {A = ℕ} 256 0);
+          wide = omega (arith, few, length-replicate {A = ℕ} mostCustomers 0);
           each = λ i l. record {
             within = λ e. omega (arith, zero-at i (omega (arith, few)));
             small = omega (arith, stake-at i l, stake-le (standing terms (at cs i)) (sane-at cs (k .all) i (omega (arith, h .counted))));
@@ -159,5 +160,5 @@ module _ (terms : Terms) where
     code-in i l =
         subst (λ (n : ℕ). CodeIn book n (at cs i)) (getD-take count starts i 0 l) (all2-at (CodeIn book) 0 nobody (take count starts) cs (h .coded) i (omega (arith, h .counted)))
 
-    pub code-short : (i : ℕ) → i < count → length (at cs i .code) ≤ 12
+    pub code-short : (i : ℕ) → i < count → length (at cs i .code) ≤ longestCode
     code-short i l = code-length (at cs i .code) (sane-at cs (k .all) i (omega (arith, h .counted)) .code)

@@ -1,12 +1,11 @@
 -- What one tier's code computes is what the tier says. The arrays of weights hold what the lines offer and have pending, so the two sums,
 -- and then the two divisions over the arrays, are those over the lines.
 -- Assumes nothing.
-use Prim.Native.Nat.{ℕ, _+_, _-_, _≤_, _<_, min}
+use Prim.Native.Nat.{ℕ, _+_, _≤_, _<_, min}
 use mathlib.Core.Path.{_≡_, refl, sym, ap, _∙_}
 use mathlib.Core.List.{List, _++_, map}
 use lib.ListN.{length, drop, length-append}
 use native.Mathlib.Omega.{arith}
-use lib.Dec.{eqb}
 use Rattle.rules.specs.Division.{sumOf, share}
 use Rattle.rules.specs.Cascade.{Line, codeOf, pendingOf, offeredIn, quantity}
 use Rattle.laws.specs.Sums.{upTo, sum-map}

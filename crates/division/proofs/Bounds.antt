@@ -1,7 +1,7 @@
 -- Every number of a division fits: there are 256 weights of at most 4,000,000, and X is less than their sum. So whole lots and what is
 -- lacked fit one number side by side, and are read from it again.
 -- Assumes nothing.
-use Prim.Native.Nat.{ℕ, _+_, _*_, _/_, _%_, _≤_, _<_}
+use Prim.Native.Nat.{ℕ, _+_, _*_, _%_, _≤_, _<_}
 use mathlib.Core.Path.{_≡_}
 use mathlib.Core.List.{List}
 use native.Mathlib.Nat.{le-trans, mod-lt, mul-le-mul, mul-le-mul-right, div-le-of-le-mul}

@@ -3,7 +3,7 @@
 -- Assumes nothing.
 use Prim.Native.Nat.{ℕ, _+_, _≤_, _<_}
 use mathlib.Core.Path.{_≡_, refl, sym, ap, _∙_}
-use mathlib.Core.Bool.{Bool, true, false, cond, _&&_, _||_}
+use mathlib.Core.Bool.{Bool, true, false, _&&_, _||_}
 use mathlib.Core.List.{List}
 use native.Mathlib.Omega.{arith}
 use lib.Dec.{ltb, eqb}
@@ -12,7 +12,7 @@ use Rattle.rules.specs.Division.{sumOf, oneIf}
 use Rattle.laws.specs.Sums.{upTo, length-upTo, sum-add, sum-zero, sum-one}
 use Rattle.laws.specs.Indices.{sum-below}
 use Rattle.division.specs.Shares.{at}
-use Rattle.division.specs.Parts.{lackIn, before, beforeOf, countOf, Spanned}
+use Rattle.division.specs.Parts.{lackIn, beforeOf, countOf, Spanned}
 
 -- up to an edge are those below it and those at it
 at-edge : (a e : ℕ) → oneIf (ltb a (e + 1)) ≡ oneIf (ltb a e) + oneIf (eqb a e)

@@ -2,8 +2,8 @@
 -- Assumes nothing.
 use Prim.Native.Nat.{ℕ, _+_, _-_, _*_, _/_, _%_, _≤_, _<_}
 use mathlib.Core.Path.{_≡_, refl, sym, ap, _∙_}
-use mathlib.Core.Bool.{Bool, true, false, cond, _&&_, _||_}
-use mathlib.Core.List.{List, map, _++_}
+use mathlib.Core.Bool.{Bool, true, false, _&&_, _||_}
+use mathlib.Core.List.{List, _++_}
 use native.Mathlib.Nat.{zero-mul, zero-div}
 use native.Mathlib.Omega.{arith}
 use lib.Dec.{ltb, eqb}
@@ -13,7 +13,7 @@ use Rattle.rules.specs.Division.{sumOf, oneIf, leftOver, rank, shareOf, share}
 use Rattle.laws.specs.Sums.{upTo, length-upTo}
 use Rattle.laws.specs.Indices.{below-upTo, sum-below, map-below}
 use Rattle.laws.specs.Filled.{filled, front-at, filled-filled, filled-same}
-use Rattle.laws.specs.Division.{wholes-le, left-few, share-of-none, share-whole}
+use Rattle.laws.specs.Division.{wholes-le, left-few, share-whole}
 use Rattle.division.proofs.Bounds.{rest-lt, whole-le, whole-in, lack-in}
 use Rattle.division.proofs.Order.{same, last-serves}
 use Rattle.division.specs.Shares.{at, codeAt, shareAt, divided}

@@ -8,7 +8,7 @@ use native.Mathlib.Omega.{arith}
 use borrow.Author.Tests.{le-ltb, ne-eqb}
 use Rattle.laws.specs.Sums.{upTo, sum-zero}
 use Rattle.laws.specs.Indices.{sum-below}
-use Rattle.division.proofs.Counts.{lacking, tied, none-lacking, all-lacking, up-to-edge, before-edge, none-keyed, all-keyed}
+use Rattle.division.proofs.Counts.{lacking, none-lacking, all-lacking, up-to-edge, before-edge, none-keyed, all-keyed}
 use Rattle.division.specs.Shares.{at}
 use Rattle.division.specs.Parts.{lackIn, beforeOf, countOf, Edge, Sought, Parted, Spanned, IsLast}
 

@@ -6,7 +6,6 @@ use mathlib.Core.Path.{_≡_}
 use mathlib.Core.Bool.{Bool, cond, _&&_, _||_}
 use mathlib.Core.List.{List}
 use lib.Dec.{ltb, eqb}
-use lib.ListN.{length}
 use Rattle.rules.specs.Limits.{mostCustomers}
 use Rattle.rules.specs.Division.{sumOf, oneIf}
 use Rattle.laws.specs.Sums.{upTo}

@@ -6,7 +6,7 @@ ghost use Prim.Native.Nat.{ℕ, _+_, _*_, _/_, _%_, _-_, _≤_, _<_, max};
 ghost use lib.ListN.{length};
 ghost use Rattle.rules.specs.Division.{oneIf};
 ghost use Rattle.division.specs.Shares.{at, divided, Lent};
-ghost use Rattle.division.specs.Parts.{base, wholeIn, lackIn, before, counts, countOf, Sought, Found, Ready, Spread, Parted, Spanned, IsLast, Settled};
+ghost use Rattle.division.specs.Parts.{base, wholeIn, before, counts, countOf, Sought, Found, Ready, Spread, Parted, Spanned, IsLast, Settled};
 
 // A member's part is one number: its whole lots, times this, and what it lacks of one lot more, which is at most the sum of the weights.
 const BASE: u64 = 4_294_967_296;

@@ -3,9 +3,9 @@
 -- Assumes nothing.
 use Prim.Native.Nat.{ℕ, zero, suc, _<_}
 use mathlib.Core.Path.{_≡_, refl, ap}
-use mathlib.Core.Bool.{Bool, true, false}
+use mathlib.Core.Bool.{false}
 use mathlib.Core.List.{List, [], _∷_, map}
-use lib.ListN.{length, getD}
+use lib.ListN.{getD}
 use native.Mathlib.Omega.{arith}
 use Rattle.rules.specs.declared.Standing.the-variants.{Neither}
 use Rattle.rules.specs.Text.{bytes}
@@ -18,7 +18,7 @@ use Rattle.rules.specs.Division.{oneIf, leftOver, rank, shareOf, share}
 use Rattle.rules.specs.Cascade.{Line, lineOf, quantity, after, cascade, outcome}
 use Rattle.rules.specs.Report.{digits, reported, report, listing}
 use Rattle.rules.specs.Answer.{answer}
-use Rattle.consequences.specs.Rearranged.{partsOf, picked, rearranged, among, nobody, Chosen}
+use Rattle.consequences.specs.Rearranged.{partsOf, rearranged, among, nobody, Chosen}
 use Rattle.cases.specs.Tables.{gold, bought, sold, customer, book}
 use Rattle.promises.specs.Outcomes.{outcomeOf}
 

@@ -2,7 +2,7 @@
 // so a comma is looked for only in a value that could not be read.
 ghost use mathlib.Core.Path.{_≡_};
 ghost use Prim.Native.Nat.{_+_, _≤_};
-ghost use Rattle.rules.specs.Figures.{figureOf, openingOf, priceForm, rateForm, heldForm, has};
+ghost use Rattle.rules.specs.Figures.{figureOf, openingOf, has};
 ghost use Rattle.figures.specs.Numbers.{noOpening};
 
 mod front;

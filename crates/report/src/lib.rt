@@ -4,6 +4,7 @@ ghost use mathlib.Core.Path.{_≡_};
 ghost use mathlib.Core.List.{List};
 ghost use Prim.Native.Nat.{ℕ, _-_, _≤_, _<_};
 ghost use lib.ListN.{length, getD};
+ghost use Rattle.rules.specs.Limits.{longestCode};
 ghost use Rattle.cascade.specs.Columns.{standingOf};
 ghost use Rattle.writing.specs.Written.{Room, Wrote};
 ghost use Rattle.entries.specs.Entries.{reportedLength};
@@ -33,7 +34,7 @@ fn size_at(book: &[u8], start: usize) -> usize
 
 // How many bytes a customer takes in a report: at most 42, so that the sum of 256 fits.
 fn line_length(size: usize, offset: u64) -> usize
-    requires { ⌜ size ≤ 12 ⌝ }
+    requires { ⌜ size ≤ longestCode ⌝ }
     ensures { λ r. ⌜ (r ≡ reportedLength size offset) × (r ≤ 42) ⌝ }
 {
     entries::reported_length(size, offset)
@@ -81,7 +82,7 @@ fn put_line(
     offset: u64,
     listed: bool,
 ) -> usize
-    requires { ⌜ length (now code) ≤ 12 ⌝ }
+    requires { ⌜ length (now code) ≤ longestCode ⌝ }
     requires { ⌜ Room at (lineBytes listed (shown (now code) standing offset)) (now out) ⌝ }
     ensures { λ r. ⌜ Wrote at (lineBytes listed (shown (now (code .entry)) standing offset)) (now (out .entry)) (now (out .exit)) r ⌝ }
 {

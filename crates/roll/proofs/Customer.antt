@@ -9,6 +9,7 @@ use lib.ListN.{length, getD, take, drop, set}
 use lib.Dec.{leb}
 use borrow.Author.Tests.{leb-true, leb-false}
 use Rattle.rules.specs.declared.Terms.{Terms}
+use Rattle.rules.specs.Limits.{mostCustomers}
 use Rattle.rules.specs.Codes.{isCode}
 use Rattle.rules.specs.Fields.{fieldsOf}
 use Rattle.rules.specs.Book.{afterC, Refused}
@@ -51,7 +52,7 @@ module _ {s : List ℕ} {terms : Terms} {first at count : ℕ} {keys starts stan
 
   -- a new customer, and the columns with it
   pub record More (key place standing stake : ℕ) : Type 0 where
-    pub room : count < 256
+    pub room : count < mostCustomers
     pub code : isCode value ≡ true
     pub later : end ≤ place
     pub next : Between s terms first place (count + 1) (set keys count key) (set starts count start) (set standings count standing) (set stakes count stake)

@@ -14,6 +14,7 @@ use lib.Dec.{leb, ltb, eqb}
 use borrow.Author.Tests.{leb-true, leb-false, ltb-true, ltb-false, lt-ltb, le-ltb, ne-eqb}
 use Rattle.rules.specs.declared.Terms.{Terms}
 use Rattle.rules.specs.declared.Standing.{Standing}
+use Rattle.rules.specs.Limits.{mostCustomers, longestCode}
 use Rattle.rules.specs.Refusal as refusal
 use Rattle.rules.specs.Text.{is}
 use Rattle.rules.specs.Codes.{isCode}
@@ -66,7 +67,7 @@ use Rattle.roll.specs.Roll.{byteOf, stakeAs, keyIn, standingIn, stakeIn,
 pub record Between (s : List ℕ) (terms : Terms) (first at count : ℕ) (keys starts standings stakes : List ℕ) : Type 0 where
   pub customers : List Customer
   pub lastC : ℕ
-  pub few : length customers ≤ 256
+  pub few : length customers ≤ mostCustomers
   pub sound : (c : Customer) → List·Memᴰ c customers → isCode (c .code) ≡ true
   pub room : Room keys starts standings stakes
   pub held : Held s terms customers keys starts standings stakes count
@@ -119,10 +120,10 @@ some-field s i h e = go (leb (i + 3 + sizeAt s i) (length s)) refl
 
 module _ {s : List ℕ} {terms : Terms} {first at count : ℕ} {keys starts standings stakes : List ℕ} (b : Between s terms first at count keys starts standings stakes) where
   -- 2: no field is there
-  pub turn-short : firstAt at (fieldsOf (drop at s)) ≡ Short → verdictFrom terms first (fieldsOf (drop first s)) ≡ Refused 2 at
+  pub turn-short : firstAt at (fieldsOf (drop at s)) ≡ Short → verdictFrom terms first (fieldsOf (drop first s)) ≡ Refused refusal.cutShort at
   turn-short h = b .walks ∙ go (fieldsOf (drop at s)) (nothing at _ h)
     where
-      go : (fs : List Field) → Nothing fs → (walk (Reading (InGroup terms (b .customers) Nobody)) (b .lastC) at fs) ≡ Refused 2 at
+      go : (fs : List Field) → Nothing fs → (walk (Reading (InGroup terms (b .customers) Nobody)) (b .lastC) at fs) ≡ Refused refusal.cutShort at
       go [] none = refl
       go (Cut ∷ fs) cut = refl
 
@@ -145,12 +146,12 @@ module _ {s : List ℕ} {terms : Terms} {first at count : ℕ} {keys starts stan
     found = walked
 
     -- 3: neither C nor Z
-    pub turn-other : (t ≡ 67 → ⊥) → (t ≡ 90 → ⊥) → verdictFrom terms first (fieldsOf (drop first s)) ≡ Refused 3 at
+    pub turn-other : (t ≡ 67 → ⊥) → (t ≡ 90 → ⊥) → verdictFrom terms first (fieldsOf (drop first s)) ≡ Refused refusal.misplaced at
     unfolding step within
     turn-other c z = found ∙ other (ne-eqb t 67 c) (ne-eqb t 90 z)
       where
         other : is "C" t ≡ false → is "Z" t ≡ false →
-            (placed (b .lastC) at (step (InGroup terms (b .customers) Nobody) t value) λ stage. walk stage (cond (is "C" t) at (b .lastC)) end (fieldsOf (drop end s))) ≡ Refused 3 at
+            (placed (b .lastC) at (step (InGroup terms (b .customers) Nobody) t value) λ stage. walk stage (cond (is "C" t) at (b .lastC)) end (fieldsOf (drop end s))) ≡ Refused refusal.misplaced at
         other x y = rw (x, y)
 
   -- Z
@@ -163,7 +164,7 @@ module _ {s : List ℕ} {terms : Terms} {first at count : ℕ} {keys starts stan
     at-z = found k
 
     behind : (fs : List Field) → fieldsOf (drop end s) ≡ fs → (p : Bool) → ltb end (length s) ≡ p →
-        (walk (Ended terms (b .customers)) (b .lastC) end fs) ≡ cond p (Refused 3 end) (Accepted terms (b .customers))
+        (walk (Ended terms (b .customers)) (b .lastC) end fs) ≡ cond p (Refused refusal.misplaced end) (Accepted terms (b .customers))
     behind [] e true h = absurd (some-field s end (omega (arith, ltb-true)) e)
     behind [] e false h = refl
     behind (f ∷ fs) e true h = refl
@@ -173,7 +174,7 @@ module _ {s : List ℕ} {terms : Terms} {first at count : ℕ} {keys starts stan
         some x = let z : _≡_ {A = ℕ} 0 1 = cc in omega arith
 
     ended : (p q : Bool) → ltb start end ≡ p → ltb end (length s) ≡ q →
-        verdictFrom terms first (fieldsOf (drop first s)) ≡ cond p (Refused 5 at) (cond q (Refused 3 end) (Accepted terms (b .customers)))
+        verdictFrom terms first (fieldsOf (drop first s)) ≡ cond p (Refused refusal.malformed at) (cond q (Refused refusal.misplaced end) (Accepted terms (b .customers)))
     ended true q x y =
         let long : ltb 0 (length (value k)) ≡ true = lt-ltb 0 (length (value k)) (omega (arith, k .size, ltb-true)) in
         at-z ∙ rw long
@@ -208,19 +209,19 @@ module _ {s : List ℕ} {terms : Terms} {first at count : ℕ} {keys starts stan
     known e =
         given-keys (value k) (b .customers) e (b .sound) ∙ ap (λ (l : List ℕ). givenIn l (keyOf (value k))) (sym (b .held .keyed))
 
-    same-few : leb 256 count ≡ leb 256 (length (b .customers))
-    same-few = ap (leb 256) (b .held .counted)
+    same-few : leb mostCustomers count ≡ leb mostCustomers (length (b .customers))
+    same-few = ap (leb mostCustomers) (b .held .counted)
 
     -- what C comes to, by its three tests
-    opened : (p q g : Bool) → leb 256 count ≡ p → isCode (value k) ≡ q → given (value k) (b .customers) ≡ g →
-        opens terms (value k) (b .customers) ≡ refuse 10 p (refuse 5 (not q) (refuse 7 g (Next (Reading (InGroup terms (b .customers) (afterC (value k)))))))
-    opened p q g x y z = let w : leb 256 (length (b .customers)) ≡ p = sym same-few ∙ x in rw (w, y, z)
+    opened : (p q g : Bool) → leb mostCustomers count ≡ p → isCode (value k) ≡ q → given (value k) (b .customers) ≡ g →
+        opens terms (value k) (b .customers) ≡ refuse refusal.tooMany p (refuse refusal.malformed (not q) (refuse refusal.givenBefore g (Next (Reading (InGroup terms (b .customers) (afterC (value k)))))))
+    opened p q g x y z = let w : leb mostCustomers (length (b .customers)) ≡ p = sym same-few ∙ x in rw (w, y, z)
 
-    refuses : (n : ℕ) → eqb n 9 ≡ false → opens terms (value k) (b .customers) ≡ Stop n → verdictFrom terms first (fieldsOf (drop first s)) ≡ Refused n at
+    refuses : (n : ℕ) → eqb n refusal.uncovered ≡ false → opens terms (value k) (b .customers) ≡ Stop n → verdictFrom terms first (fieldsOf (drop first s)) ≡ Refused n at
     refuses n x e = at-c ∙ rw (e, x)
 
     pub turn-no-code : (r : Refusal) → codeAt at count (take count keys) (value k) ≡ NoCode r → verdictFrom terms first (fieldsOf (drop first s)) ≡ Refused (r .number) (r .place)
-    turn-no-code r e = full (leb 256 count) refl e
+    turn-no-code r e = full (leb mostCustomers count) refl e
       where
         as-said : (n : ℕ) → NoCode (refusedAt n at) ≡ NoCode r → Refused n at ≡ Refused (r .number) (r .place)
         as-said n x = let f : refusedAt n at ≡ r = cc in ap (λ (y : Refusal). Refused (y .number) (y .place)) f
@@ -228,26 +229,26 @@ module _ {s : List ℕ} {terms : Terms} {first at count : ℕ} {keys starts stan
         not-new : {x : ℕ} → NewKey x ≡ NoCode r → ⊥
         not-new x = let z : _≡_ {A = ℕ} 0 1 = cc in omega arith
 
-        seen : (x : ℕ) → codeOf (value k) ≡ Key x → leb 256 count ≡ false → (g : Bool) → givenIn (take count keys) x ≡ g → cond g (NoCode (refusedAt refusal.givenBefore at)) (NewKey x) ≡ NoCode r →
+        seen : (x : ℕ) → codeOf (value k) ≡ Key x → leb mostCustomers count ≡ false → (g : Bool) → givenIn (take count keys) x ≡ g → cond g (NoCode (refusedAt refusal.givenBefore at)) (NewKey x) ≡ NoCode r →
             verdictFrom terms first (fieldsOf (drop first s)) ≡ Refused (r .number) (r .place)
         seen x c f true h y =
             let d = key-read (value k) x c in
             let g : given (value k) (b .customers) ≡ true = known (d .0) ∙ ap (givenIn (take count keys)) (d .1) ∙ h in
-            refuses 7 refl (opened false true true f (d .0) g) ∙ as-said 7 y
+            refuses refusal.givenBefore refl (opened false true true f (d .0) g) ∙ as-said refusal.givenBefore y
         seen x c f false h y = absurd (not-new y)
 
-        read : (c : Code) → codeOf (value k) ≡ c → leb 256 count ≡ false → newCode at (take count keys) c ≡ NoCode r → verdictFrom terms first (fieldsOf (drop first s)) ≡ Refused (r .number) (r .place)
+        read : (c : Code) → codeOf (value k) ≡ c → leb mostCustomers count ≡ false → newCode at (take count keys) c ≡ NoCode r → verdictFrom terms first (fieldsOf (drop first s)) ≡ Refused (r .number) (r .place)
         read (Key x) c f y = seen x c f (givenIn (take count keys) x) refl y
-        read Malformed c f y = refuses 5 refl (opened false false (given (value k) (b .customers)) f (none-read (value k) c) refl) ∙ as-said 5 y
+        read Malformed c f y = refuses refusal.malformed refl (opened false false (given (value k) (b .customers)) f (none-read (value k) c) refl) ∙ as-said refusal.malformed y
 
-        full : (p : Bool) → leb 256 count ≡ p → cond p (NoCode (refusedAt refusal.tooMany at)) (newCode at (take count keys) (codeOf (value k))) ≡ NoCode r →
+        full : (p : Bool) → leb mostCustomers count ≡ p → cond p (NoCode (refusedAt refusal.tooMany at)) (newCode at (take count keys) (codeOf (value k))) ≡ NoCode r →
             verdictFrom terms first (fieldsOf (drop first s)) ≡ Refused (r .number) (r .place)
-        full true f y = refuses 10 refl (opened true (isCode (value k)) (given (value k) (b .customers)) f refl refl) ∙ as-said 10 y
+        full true f y = refuses refusal.tooMany refl (opened true (isCode (value k)) (given (value k) (b .customers)) f refl refl) ∙ as-said refusal.tooMany y
         full false f y = read (codeOf (value k)) refl f y
 
     -- a new customer
     pub record New (key : ℕ) : Type 0 where
-      pub room : count < 256
+      pub room : count < mostCustomers
       pub code : isCode (value k) ≡ true
       pub key-is : keyOf (value k) ≡ key
       pub goes :
@@ -255,12 +256,12 @@ module _ {s : List ℕ} {terms : Terms} {first at count : ℕ} {keys starts stan
           ≡ carried terms (b .customers) at (groupFrom terms (afterC (value k)) at end (fieldsOf (drop end s)))
 
     pub turn-new : (key : ℕ) → codeAt at count (take count keys) (value k) ≡ NewKey key → New key
-    turn-new key e = full (leb 256 count) refl e
+    turn-new key e = full (leb mostCustomers count) refl e
       where
         not-refused : {r : Refusal} → NoCode r ≡ NewKey key → ⊥
         not-refused x = let z : _≡_ {A = ℕ} 0 1 = cc in omega arith
 
-        seen : (x : ℕ) → codeOf (value k) ≡ Key x → leb 256 count ≡ false → (g : Bool) → givenIn (take count keys) x ≡ g → cond g (NoCode (refusedAt refusal.givenBefore at)) (NewKey x) ≡ NewKey key → New key
+        seen : (x : ℕ) → codeOf (value k) ≡ Key x → leb mostCustomers count ≡ false → (g : Bool) → givenIn (take count keys) x ≡ g → cond g (NoCode (refusedAt refusal.givenBefore at)) (NewKey x) ≡ NewKey key → New key
         seen x c f true h y = absurd (not-refused y)
         seen x c f false h y =
             let d = key-read (value k) x c in
@@ -273,11 +274,11 @@ module _ {s : List ℕ} {terms : Terms} {first at count : ℕ} {keys starts stan
               goes = at-c ∙ rw (opened false true false f (d .0) g) (walk-group terms (b .customers) (afterC (value k)) at end (fieldsOf (drop end s)) tt);
             }
 
-        read : (c : Code) → codeOf (value k) ≡ c → leb 256 count ≡ false → newCode at (take count keys) c ≡ NewKey key → New key
+        read : (c : Code) → codeOf (value k) ≡ c → leb mostCustomers count ≡ false → newCode at (take count keys) c ≡ NewKey key → New key
         read (Key x) c f y = seen x c f (givenIn (take count keys) x) refl y
         read Malformed c f y = absurd (not-refused y)
 
-        full : (p : Bool) → leb 256 count ≡ p → cond p (NoCode (refusedAt refusal.tooMany at)) (newCode at (take count keys) (codeOf (value k))) ≡ NewKey key → New key
+        full : (p : Bool) → leb mostCustomers count ≡ p → cond p (NoCode (refusedAt refusal.tooMany at)) (newCode at (take count keys) (codeOf (value k))) ≡ NewKey key → New key
         full true f y = absurd (not-refused y)
         full false f y = read (codeOf (value k)) refl f y
 
@@ -333,7 +334,7 @@ module _ {s : List ℕ} {terms : Terms} {first at count : ℕ} {keys starts stan
             let n = b .held .counted in
             let size-c : length (c .code) ≡ end - start = ap length (d .code) ∙ k .size in
             let code-c : isCode (c .code) ≡ true = ap isCode (d .code) ∙ w .code in
-            let short-c : length (c .code) ≤ 12 = code-length (c .code) code-c in
+            let short-c : length (c .code) ≤ longestCode = code-length (c .code) code-c in
             let place-c : start - 1 ≡ at + 2 = omega (arith, k .begins) in
             let code-in : CodeIn s start c = record {
               behind = omega (arith, k .begins);

@@ -10,7 +10,6 @@ use Rattle.rules.specs.declared.Fen.{Fen}
 use Rattle.rules.specs.declared.Lots.{Lots}
 use Rattle.rules.specs.declared.Rate.{Rate}
 use Rattle.rules.specs.declared.Form.{Form}
-use Rattle.rules.specs.declared.Trade.{Trade}
 use Rattle.rules.specs.declared.Figure.{Figure}
 use Rattle.rules.specs.declared.Figure.the-variants.{Value, Comma, Malformed}
 use Rattle.rules.specs.declared.Opening.{Opening}

@@ -1,9 +1,10 @@
 -- `allot::main` meets its contract: what was read fits the buffer, and so does the listing.
 -- Assumes nothing.
-use Prim.Native.Nat.{_≤_}
+use Prim.Native.Nat.{_+_, _≤_}
 use mathlib.Core.Path.{_≡_, subst}
 use native.Mathlib.Omega.{arith}
 use lib.ListN.{length, length-take}
+use Rattle.rules.specs.Limits.{longestBook}
 use Rattle.allot.specs.declared.Input.{Input}
 use Rattle.allot.specs.Input.{Within}
 use borrow.Author.Needs.{needs}
@@ -15,11 +16,11 @@ module _ (c : tie.After-n) where
   abbrev read : tie.After-read-input
   read = c .before .before .before
 
-  size : length (read .read-input .last .1 .0) ≡ 60001
+  size : length (read .read-input .last .1 .0) ≡ longestBook + 1
   size = search needs
 
   fits : c .n .given .0 .0 ≤ length (read .read-input .last .1 .0)
-  fits = let w : c .n .given .0 .0 ≤ 60001 = subst (λ (x : Input). Within x 60001) (c .n .given .1) (read .read-input .ensures) in omega (arith, size)
+  fits = let w : c .n .given .0 .0 ≤ longestBook + 1 = subst (λ (x : Input). Within x (longestBook + 1)) (c .n .given .1) (read .read-input .ensures) in omega (arith, size)
 
 slice-aggregate-read-input : tie.Need-slice-aggregate-read-input
 slice-aggregate-read-input c = search needs

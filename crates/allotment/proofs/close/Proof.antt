@@ -4,6 +4,7 @@ use Prim.Native.Nat.{ℕ, _-_}
 use mathlib.Core.Path.{_≡_, ap₂, _∙_}
 use native.Mathlib.Omega.{arith}
 use lib.ListN.{getD-replicate}
+use Rattle.rules.specs.Limits.{mostCustomers}
 use Rattle.cascade.specs.declared.Cascade.{Cascade}
 use Rattle.cascade.specs.Columns.{Columns, columns}
 use Rattle.cascade.specs.State.{afterAll}
@@ -25,7 +26,7 @@ owed-requires c κs = let p = c .before .before .before .pre in record { few = p
 run-requires : tie.Need-run-requires
 run-requires c κs =
     let s = start c in
-    (s .pre, c .owed .ensures ∙ owed-is (cols c) atFirst (λ i l. getD-replicate {A = ℕ} 256 i 0 0 (omega (arith, s .pre .few))))
+    (s .pre, c .owed .ensures ∙ owed-is (cols c) atFirst (λ i l. getD-replicate {A = ℕ} mostCustomers i 0 0 (omega (arith, s .pre .few))))
 
 less-requires : tie.Need-less-requires
 less-requires c κs = search needs
@@ -35,7 +36,7 @@ returns c =
     let r = c .before .before in
     let o = r .before in
     let e : r .run .result ≡ afterAll (cols o) atFirst = r .run .ensures in
-    let w = o .owed .ensures ∙ owed-is (cols o) atFirst (λ i l. getD-replicate {A = ℕ} 256 i 0 0 (omega (arith, start o .pre .few))) in
+    let w = o .owed .ensures ∙ owed-is (cols o) atFirst (λ i l. getD-replicate {A = ℕ} mostCustomers i 0 0 (omega (arith, start o .pre .few))) in
     let m = c .less .ensures ∙ ap₂ (λ (x : ℕ) (y : Cascade). x - y .total) w e in
     λ j. record { offset = e j .offset; total = e j .total; residue = m j }
 

@@ -1,11 +1,8 @@
 -- The code's tests are the definition's.
 -- Assumes nothing.
-use mathlib.Core.Path.{_≡_}
-use mathlib.Core.Bool.{true, false}
 use native.Mathlib.Nat.{sub-zero}
 use borrow.Author.Needs.{needs}
 use borrow.Author.Tests.{eq-eqb, ne-eqb}
-use lib.Dec.{eqb}
 use native.Mathlib.Omega.{arith}
 use Rattle.cascade.proofs.weight_of.Statement.{statement}
 use Rattle.cascade.proofs.weight_of.Tie as tie

@@ -1,12 +1,10 @@
 -- X over the weights: the parts, the last of the lots left over, and then every member's lots. Where all of it is divided, each has its
 -- lots already.
 -- Assumes nothing.
-use Prim.Native.Nat.{ℕ, _≤_}
-use mathlib.Core.Path.{_≡_}
+use Prim.Native.Nat.{ℕ}
 use mathlib.Core.List.{List}
 use native.Mathlib.Omega.{arith}
 use borrow.Author.Needs.{needs}
-use lib.ListN.{length}
 use Rattle.division.proofs.Division.{given-le, parted, small, settled, all-divided}
 use Rattle.division.specs.Parts.{Ready}
 use Rattle.division.proofs.divide.Statement.{statement}

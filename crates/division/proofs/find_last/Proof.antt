@@ -1,13 +1,12 @@
 -- The last is found: each step of the code is a step of the search.
 -- Assumes nothing.
-use Prim.Native.Nat.{ℕ, _+_, _-_}
-use mathlib.Core.Path.{_≡_, sym, ap, _∙_}
+use Prim.Native.Nat.{ℕ, _+_}
+use mathlib.Core.Path.{_≡_, sym, _∙_}
 use mathlib.Core.List.{List}
 use native.Mathlib.Omega.{arith}
 use borrow.Author.Needs.{needs}
-use Rattle.division.proofs.Counts.{lacking}
 use Rattle.division.proofs.Search.{below-it, nobody, seek-lack, all-tied, sooner-less, seek-key, some-tied}
-use Rattle.division.specs.Parts.{countOf, Edge, Sought}
+use Rattle.division.specs.Parts.{countOf}
 use Rattle.division.proofs.find_last.Statement.{statement}
 use Rattle.division.proofs.find_last.Tie as tie
 

@@ -5,10 +5,6 @@ use mathlib.Core.Path.{sym, _∙_}
 use borrow.Author.Needs.{needs}
 use Rattle.roll.proofs.code_at.Statement.{statement}
 use Rattle.roll.proofs.code_at.Tie as tie
-use Rattle.roll.proofs.code_at.Reads as reads
-use Rattle.roll.proofs.code_at.Lts as lts
-use Rattle.codes.proofs.known.Reads as known-reads
-use Rattle.codes.proofs.read_code.Reads as read-code-reads
 
 returns : tie.Need-returns
 returns c = simp (le-leb _ _ (c .if1 .taken))

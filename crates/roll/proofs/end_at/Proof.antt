@@ -3,8 +3,6 @@
 use borrow.Author.Tests.{lt-ltb, le-ltb}
 use Rattle.roll.proofs.end_at.Statement.{statement}
 use Rattle.roll.proofs.end_at.Tie as tie
-use Rattle.roll.proofs.end_at.Reads as reads
-use Rattle.roll.proofs.end_at.Lts as lts
 
 returns : tie.Need-returns
 returns c = simp (lt-ltb _ _ (c .if1 .taken))

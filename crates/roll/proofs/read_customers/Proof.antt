@@ -4,9 +4,9 @@
 use borrow.Author.Needs.{needs}
 use Prim.Native.Nat.{ℕ, suc, _+_, _-_, _≤_, _<_}
 use native.Mathlib.Omega.{arith}
-use mathlib.Core.Path.{_≡_, refl, sym, ap, subst, _∙_}
+use mathlib.Core.Path.{_≡_, refl, sym, subst, _∙_}
 use mathlib.Core.List.{List}
-use lib.ListN.{length, take, drop, length-set}
+use lib.ListN.{length, drop, length-set}
 use Rattle.rules.specs.Limits.{mostCustomers}
 use Rattle.rules.specs.Fields.{fieldsOf}
 use Rattle.codes.specs.Codes.{Marked}
@@ -14,7 +14,6 @@ use Rattle.codes.proofs.Marks.{mark-below, marked-none, marked-more}
 use Rattle.fields.specs.declared.Found.the-variants.{Field as FieldAt}
 use Rattle.fields.specs.First.{firstAt}
 use Rattle.fields.specs.Laws.{Stands, stands}
-use Rattle.roll.specs.declared.Roll.{Roll}
 use Rattle.roll.specs.Roll.{Room, Rolled, Columns, columns, stored, filledFrom}
 use Rattle.roll.proofs.Filling.{stays-short, stays-other, stays-refused, fills}
 use Rattle.roll.proofs.Turns.{Between, Lasting, begun, turn-short, turn-other, turn-ended}
@@ -96,7 +95,7 @@ module _ (c : tie.After-key Inv-loop μ-loop) where
   more : More (state .loop .inv .0) (a-c asked) (c .key .given .0 .0) (c .key .given .0 .1 .0) (c .key .given .0 .1 .1 .0) (c .key .given .0 .1 .1 .1 .0)
   more = turn-customer (state .loop .inv .0) (a-c asked) _ _ _ _ (size-said (book field-read) (state .loop .at) (tag field-read) (start field-read) (end field-read) (said field-read)) (sym (asked .customer-at .ensures) ∙ c .key .given .1)
 
-  room : state .loop .count < 256
+  room : state .loop .count < mostCustomers
   room = more .room
 
   -- there is room in each column

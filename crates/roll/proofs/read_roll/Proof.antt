@@ -7,6 +7,7 @@ use native.Mathlib.Omega.{arith}
 use lib.ListN.{length}
 use borrow.Author.Tests.{lt-ltb, le-ltb}
 use Rattle.rules.specs.Limits.{longestBook}
+use Rattle.rules.specs.Refusal as refusal
 use Rattle.rules.specs.Book.{Verdict, Refused, judge}
 use Rattle.terms.specs.declared.TermsAt.{TermsAt}
 use Rattle.terms.specs.Terms.{termsOf}
@@ -23,7 +24,7 @@ judged : (s : List ℕ) → length s ≤ longestBook → (t : TermsAt) → terms
 unfolding judge
 judged s h t e = rw (le-ltb longestBook (length s) h) (terms-mean s ∙ ap (thenWalk s) e)
 
-too-long : (s : List ℕ) → longestBook < length s → judge s ≡ Refused 1 0
+too-long : (s : List ℕ) → longestBook < length s → judge s ≡ Refused refusal.tooLong 0
 unfolding judge
 too-long s h = rw (lt-ltb longestBook (length s) h)
 
