@@ -52,7 +52,8 @@ entries-read : (ls : List Line) → entriesIn (fieldsOf (joined reported ls)) �
 unfolding fieldsOf reported entryOf
 entries-read [] = refl
 entries-read (l ∷ ls) =
-    rw (entry-framed (l .code) (digits (l .offset)) (letter (l .standing)) (joined reported ls), number-digits (l .offset), entries-read ls) refl
+    rw (entry-framed (l .code) (digits (l .offset)) (letter (l .standing)) (joined reported ls), entries-read ls)
+    (ap (λ lots. record { code = l .code; letter = letter (l .standing); lots = lots } ∷ map entryOf ls) (number-digits (l .offset)))
 
 -- what the report of an outcome tells
 toldOf : Outcome → Told
