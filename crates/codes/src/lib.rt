@@ -1,6 +1,7 @@
 // Customer codes as numbers: equal where the codes are the same, and in the order of their bytes.
 ghost use mathlib.Core.Path.{_≡_};
-ghost use Prim.Native.Nat.{_-_, _^_, _≤_, min, max};
+ghost use mathlib.Core.Bool.{cond};
+ghost use Prim.Native.Nat.{_-_, _^_, _≤_};
 ghost use lib.ListN.{length, take};
 ghost use Rattle.laws.specs.Keys.{digitOf};
 ghost use Rattle.codes.specs.Codes.{codeOf, givenIn, markOf, Marked};
@@ -30,36 +31,28 @@ const POWERS: [u64; 13] = [
     1,
 ];
 
-fn smaller(x: u8, y: u8) -> u8
-    ensures { λ r. ⌜ r ≡ min x y ⌝ }
+// The first where it is a number, and the second where it is a letter.
+fn either(number: bool, x: u8, y: u8) -> u8
+    ensures { λ r. ⌜ r ≡ cond number x y ⌝ }
 {
-    if x < y { x } else { y }
+    if number { x } else { y }
 }
 
-fn larger(x: u8, y: u8) -> u8
-    ensures { λ r. ⌜ r ≡ max x y ⌝ }
-{
-    if x < y { y } else { x }
-}
-
-// A sum and no branch where a number and a letter differ, since a code mixes them: from 'A' on the number stays at 10.
+// The bounds and the sum are chosen with no branch where a number and a letter differ, since a code mixes them.
 fn digit(x: u8) -> u64
     ensures { λ r. ⌜ r ≡ digitOf x ⌝ }
 {
-    if x < b'0' {
+    let number = x < b'A';
+    let least = either(number, b'0', b'A');
+    if x < least {
         return 0;
     }
-    if b'Z' < x {
+    let most = either(number, b'9', b'Z');
+    if most < x {
         return 0;
     }
-    if b'9' < x {
-        if x < b'A' {
-            return 0;
-        }
-    }
-    let number = smaller(x, b'9') - 47;
-    let letter = larger(x, b'@') - b'@';
-    (number + letter) as u64
+    let none = either(number, 47, 54);
+    (x - none) as u64
 }
 
 // What a number of n digits is worth in 12 places, where the rest has none.
