@@ -7,10 +7,6 @@ use lib.ListN.{getD}
 use Rattle.codes.proofs.Marks.{mark-below, not-given}
 use Rattle.codes.proofs.known.Statement.{statement}
 use Rattle.codes.proofs.known.Tie as tie
-use Rattle.codes.proofs.known.Reads as reads
-use Rattle.codes.proofs.known.Lts as lts
-use Rattle.codes.proofs.given.Reads as given-reads
-use Rattle.codes.proofs.mark_of.Reads as mark-of-reads
 
 mark-of-requires : tie.Need-mark-of-requires
 mark-of-requires c κs = search needs

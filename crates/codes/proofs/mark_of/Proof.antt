@@ -4,8 +4,6 @@ use mathlib.Core.Path.{refl}
 use Rattle.codes.specs.Codes.{markOf}
 use Rattle.codes.proofs.mark_of.Statement.{statement}
 use Rattle.codes.proofs.mark_of.Tie as tie
-use Rattle.codes.proofs.mark_of.Reads as reads
-use Rattle.codes.proofs.mark_of.Lts as lts
 
 returns : tie.Need-returns
 unfolding markOf
