@@ -1,3 +1,4 @@
+-- docs/RULES.md, sections 6 and 7.
 -- Document 01, "Refusal numbers": for each number and place, what the book is "exactly when" they are given. "Number 1 comes first. Then fields are
 -- judged from the front, and the first that breaks a rule decides."
 -- Assumes nothing.

@@ -1,4 +1,4 @@
--- Document 01, "Refusal numbers": for each rule that one field can break a test of its own, and the order of the rules.
+-- docs/RULES.md, sections 6 and 7. Document 01, "Refusal numbers": for each rule that one field can break a test of its own, and the order of the rules.
 -- Assumes nothing.
 use Prim.Native.Nat.{ℕ}
 use Prim.Native.Char.{Char}

@@ -1,4 +1,4 @@
--- Document 01: "A call on a book and a lent report buffer returns a number, a place and a length."
+-- docs/RULES.md, section 13. Document 01: "A call on a book and a lent report buffer returns a number, a place and a length."
 -- Assumes nothing.
 use Prim.Native.Nat.{ℕ}
 use mathlib.Core.List.{List, [], _++_}

@@ -1,3 +1,4 @@
+-- docs/RULES.md, sections 3, 6 and 7.
 -- Document 01, "The book, field by field" (which tag may stand where) and "Refusal numbers" 1 to 10 with their places.
 -- Assumes nothing.
 use Prim.Native.Nat.{ℕ, _+_, _-_, min, max}

@@ -1,4 +1,4 @@
--- Document 01, "Cascade and whole lots".
+-- docs/RULES.md, section 11. Document 01, "Cascade and whole lots".
 -- Assumes nothing.
 use Prim.Native.Nat.{ℕ, _+_, _-_, min}
 use mathlib.Core.List.{List, map}

@@ -1,4 +1,4 @@
--- Document 01: customer codes, when two are the same, and their order.
+-- docs/RULES.md, section 5. Document 01: customer codes, when two are the same, and their order.
 -- Assumes nothing.
 use Prim.Native.Nat.{ℕ}
 use Prim.Native.Char.{code}

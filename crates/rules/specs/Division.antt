@@ -1,4 +1,4 @@
--- Document 01, "Cascade and whole lots": "Dividing X over weights w with sum W (X is at most W)".
+-- docs/RULES.md, section 10. Document 01, "Cascade and whole lots": "Dividing X over weights w with sum W (X is at most W)".
 -- Assumes nothing.
 use Prim.Native.Nat.{ℕ, _+_, _-_, _*_, _/_, _%_}
 use mathlib.Core.List.{List, [], _∷_}

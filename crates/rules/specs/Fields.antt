@@ -1,4 +1,4 @@
--- Document 01: "A field is a one-byte tag, a two-byte length (high byte first) and that many bytes of value."
+-- docs/RULES.md, section 2. Document 01: "A field is a one-byte tag, a two-byte length (high byte first) and that many bytes of value."
 -- Assumes nothing.
 use Prim.Native.Nat.{ℕ, zero, suc, _+_, _*_}
 use mathlib.Core.List.{List, [], _∷_}

@@ -1,4 +1,4 @@
--- Document 01, "The book, field by field": what a figure is, and the value of a trade.
+-- docs/RULES.md, section 4. Document 01, "The book, field by field": what a figure is, and the value of a trade.
 -- Assumes nothing.
 use Prim.Native.Nat.{ℕ, zero, suc, _+_, _-_, _*_}
 use Prim.Native.Char.{Char, code}

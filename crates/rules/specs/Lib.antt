@@ -1,4 +1,4 @@
--- Document 01 as definitions, a file for each of its parts, in its order.
+-- Document 01 as definitions, a file for each of its parts, in its order. docs/RULES.md has the same in words.
 pub mod Text
 pub mod Refusal
 pub mod Limits

@@ -1,4 +1,4 @@
--- Document 01: the sizes that it sets, a name for each.
+-- docs/RULES.md, section 15. Document 01: the sizes that it sets, a name for each.
 -- Assumes nothing.
 use Prim.Native.Nat.{ℕ}
 

@@ -1,3 +1,4 @@
+-- docs/RULES.md, section 6.
 -- Document 01, "Refusal numbers": a name for each number of the table, and for 0. Brought in as `refusal`, so that a definition reads
 -- `refusal.overdrawn`.
 -- Assumes nothing.

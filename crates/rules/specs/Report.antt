@@ -1,4 +1,4 @@
--- Document 01, "Report and listing".
+-- docs/RULES.md, sections 12 and 14. Document 01, "Report and listing".
 -- Assumes nothing.
 use Prim.Native.Nat.{ℕ, zero, suc, _+_, _/_, _%_}
 use Prim.Native.Char.{Char, code}

@@ -1,4 +1,4 @@
--- Document 01, "Unit gain and standing".
+-- docs/RULES.md, sections 8 and 9. Document 01, "Unit gain and standing".
 -- Assumes nothing.
 use Prim.Native.Nat.{ℕ, _-_, _*_, min}
 use mathlib.Core.List.{List, [], _∷_}
