@@ -11,6 +11,7 @@ pub mod Stepwise
 pub mod Exactly
 pub mod Refused
 pub mod Numbers
+pub mod CallExactly
 pub mod Demands
 pub mod Demand3
 pub mod Room

@@ -45,7 +45,7 @@ module _ (s : List ℕ) (room : ℕ) where
   unfolding answer
   fits-gets {terms = terms} {cs = cs} b short = rw (accepted-exactly s terms cs .1 b, short) refl
 
-  -- A call gets a number, and a place, exactly when the table gives them.
+  -- The answer to a book with so much room has a number, and a place, exactly when the table gives them; of a call, `call-exactly`.
   pub number-exactly : (n place : ℕ) → refusal.accepted < n → ((answer s room .number ≡ n) × (answer s room .place ≡ place)) ↔ Why n place
   number-exactly n place h = (λ e. go e (decided s), λ w. why-gets w)
     where
