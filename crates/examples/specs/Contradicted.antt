@@ -80,6 +80,9 @@ wrong =
     ∷ tried "refused, and a byte is altered" comma (room 80) 4 13 0 (0 ∷ room 79)
     ∷ tried "a comma is passed over" comma (room 80) 0 0 73 (right ++ room 7)
     ∷ reports "all customers N" (field "T" (bytes "0") ++ field "R" (bytes "0") ++ line "W3" "N" "0" ++ line "P2" "N" "0" ++ line "W1" "N" "0" ++ line "P1" "N" "0" ++ line "W2" "N" "0")
+    ∷ reports "the report begins with the second customer" (field "T" (bytes "9") ++ field "R" (bytes "1") ++ line "P2" "P" "3" ++ line "W1" "1" "3" ++ line "P1" "P" "6" ++ line "W2" "2" "5")
+    ∷ tried "an entry more than there are customers" sound (room 90) 0 0 86 (right ++ line "W2" "2" "5" ++ room 4)
+    ∷ tried "a rate of two decimals is taken" (theListing "8.00") (room 80) 0 0 73 (right ++ room 7)
     ∷ tried "every book is too long" sound (room 80) 1 0 0 (room 80)
     ∷ tried "bytes after Z are passed over" (sound ++ 0 ∷ []) (room 80) 0 0 73 (right ++ room 7)
     ∷ tried "a code given before is told as one of no form" twice (room 80) 5 (length (book gold (idle ∷ [])) - 3) 0 (room 80)
@@ -88,7 +91,7 @@ wrong =
 
 pub contradicted : Contradicted wrong
 unfolding answer figureOf openingOf isCode fieldsOf within step judge gainFrom totalGain standing leftOver rank shareOf share lineOf quantity after cascade outcome digits reported report
-contradicted = none-given wrong (so & so & so & so & so & so & so & so & so & so & so & so & so & so & so & so & so & done)
+contradicted = none-given wrong (so & so & so & so & so & so & so & so & so & so & so & so & so & so & so & so & so & so & so & so & done)
 
 -- What the program's `list` leaves at the front of the buffer, as many bytes as it returns, is the listing: a refused book is not listed as one
 -- without customers.

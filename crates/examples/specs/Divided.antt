@@ -66,3 +66,10 @@ module _ (κs : Lfts 2) (a : Args division.divide.signature κs) (r : Res divisi
 
   pub contradicted : Contradicted wrongs
   contradicted = none-left wrongs (so & so & so & so & so & so & so & done)
+
+-- the same with a fourth place, which no member has: what stands there stays
+module _ (κs : Lfts 2) (a : Args division.divide.signature κs) (r : Res division.divide.signature κs) (s : AtExit division.divide.ended κs) (h : division.divide.Reads.Learnt κs a r s)
+    (weights : now (a .0) ≡ 5 ∷ 5 ∷ 4 ∷ 9 ∷ []) (keys : now (a .1 .0) ≡ 2 ∷ 1 ∷ 3 ∷ 4 ∷ []) (count : a .1 .1 .0 ≡ 3) (x : a .1 .1 .1 .0 ≡ 7) where
+  pub behind-stays : now (s .0) ≡ 2 ∷ 3 ∷ 2 ∷ 9 ∷ []
+  unfolding divided shareAt share shareOf leftOver rank
+  behind-stays = h ∙ rw (weights, keys, count, x) refl
