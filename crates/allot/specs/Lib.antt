@@ -1,1 +1,2 @@
-pub mod Input
+-- What the contracts of allot cite: what the program says of a book, and the status that it ends with.
+pub mod Told

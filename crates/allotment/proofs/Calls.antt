@@ -1,14 +1,11 @@
 -- What a book comes to is its answer and its listing.
 -- Assumes nothing.
-use Prim.Native.Nat.{ℕ, _+_, _≤_, _<_}
-use mathlib.Core.Path.{_≡_, refl, sym, ap, _∙_}
+use Prim.Native.Nat.{ℕ, _≤_}
+use mathlib.Core.Path.{_≡_, refl, sym, ap, subst, _∙_}
 use mathlib.Core.List.{List}
 use native.Mathlib.Omega.{arith}
-use native.Mathlib.Nat.{zero-add}
-use borrow.Author.Tests.{lt-ltb, le-ltb}
 use lib.ListN.{length}
 use Rattle.rules.specs.declared.Terms.{Terms}
-use Rattle.rules.specs.Refusal as refusal
 use Rattle.rules.specs.Book.{Customer, Verdict, Refused, Accepted, judge}
 use Rattle.rules.specs.Report.{listingOf, listing}
 use Rattle.rules.specs.Answer.{fitted, answerOf, answer}
@@ -20,12 +17,11 @@ use Rattle.cascade.specs.Columns.{columns}
 use Rattle.cascade.specs.State.{Steady}
 use Rattle.roll.specs.declared.Roll.{Roll}
 use Rattle.roll.specs.Roll.{Room, Rolled, Held}
-use Rattle.writing.specs.Written.{written, written-front}
 use Rattle.report.specs.Sheet.{reportBytes, listingBytes, Placed}
 use Rattle.allotment.specs.declared.Closed.{Closed}
 use Rattle.allotment.specs.declared.Worked.{Worked}
 use Rattle.allotment.specs.Worked.{listingRoom, atFirst, closedOf, sheetOf, Came}
-use Rattle.allotment.specs.Answered.{Answered}
+use Rattle.allotment.specs.Answered.{Judged}
 use Rattle.allotment.proofs.Start.{start-steady}
 use Rattle.allotment.proofs.Shown.{report-is, listing-is, placed}
 use Rattle.allotment.proofs.Space.{listing-room}
@@ -82,6 +78,7 @@ module _ (s starts standings : List ℕ) (w : Worked) (e : Came s (judge s) star
   pub record Stops : Type 0 where
     pub answers : (room : ℕ) → answer s room ≡ refused01 (w .refusal .number) (w .refusal .place)
     pub lists : listing s ≡ listingOf (Refused (w .refusal .number) (w .refusal .place))
+    pub judged : Judged (judge s) (w .refusal .number) (w .refusal .place)
 
   pub stops : (w .refusal .number ≡ 0 → ⊥) → Stops
   unfolding answer listing
@@ -92,6 +89,7 @@ module _ (s starts standings : List ℕ) (w : Worked) (e : Came s (judge s) star
           record {
             answers = λ room. ap (answerOf room) j ∙ ap (λ (r : Refusal). refused01 (r .number) (r .place)) (sym f);
             lists = ap listingOf j ∙ ap (λ (r : Refusal). listingOf (Refused (r .number) (r .place))) (sym f);
+            judged = subst (λ (v : Verdict). Judged v (w .refusal .number) (w .refusal .place)) (sym j) (ap (λ (r : Refusal). r .number) f, ap (λ (r : Refusal). r .place) f);
           }
       go (Accepted terms cs) j f = absurd (z (ap (λ (x : Refusal). x .number) (f .0)))
 
@@ -102,6 +100,7 @@ module _ (s starts standings : List ℕ) (w : Worked) (e : Came s (judge s) star
     pub short : length (listingBytes (sheetOf s starts standings w)) ≤ listingRoom
     pub answers : (room : ℕ) → answer s room ≡ fitted room (reportBytes (sheetOf s starts standings w))
     pub lists : listing s ≡ listingBytes (sheetOf s starts standings w)
+    pub judged : Judged (judge s) 0 0
 
   pub goes : w .refusal .number ≡ 0 → Goes
   unfolding answer listing
@@ -118,21 +117,5 @@ module _ (s starts standings : List ℕ) (w : Worked) (e : Came s (judge s) star
             short = h .short;
             answers = λ room. ap (answerOf room) j ∙ ap (fitted room) (sym (h .reports));
             lists = ap listingOf j ∙ sym (h .lists);
+            judged = subst (λ (v : Verdict). Judged v 0 0) (sym j) (refl, refl);
           }
-
--- a refusal leaves the buffer as it was
-pub refused-so : (n place : ℕ) (entry : List ℕ) → Answered (refused01 n place) (record { number = n; place = place; length = 0 }) entry entry
-refused-so n place entry = record { number = refl; place = refl; length = refl; buffer = refl }
-
--- 11, and no 11
-pub too-small : (r entry : List ℕ) (needed : ℕ) → needed ≡ length r → length entry < needed →
-    Answered (fitted (length entry) r) (record { number = refusal.noRoom; place = needed; length = 0 }) entry entry
-too-small r entry needed e h =
-    let f : fitted (length entry) r ≡ refused01 refusal.noRoom needed = rw (lt-ltb (length entry) (length r) (omega arith)) (ap (refused01 refusal.noRoom) (sym e)) in
-    rw f (refused-so refusal.noRoom needed entry)
-
-pub fits : (r entry exit : List ℕ) (next : ℕ) → length r ≤ length entry → exit ≡ written 0 r entry → next ≡ 0 + length r →
-    Answered (fitted (length entry) r) (record { number = 0; place = 0; length = next }) entry exit
-fits r entry exit next h e n =
-    let f : fitted (length entry) r ≡ record { number = 0; place = 0; length = length r; report = r } = rw (le-ltb (length entry) (length r) h) in
-    rw f (record { number = refl; place = refl; length = n ∙ zero-add (length r); buffer = e ∙ written-front r entry })

@@ -13,7 +13,7 @@ ghost use Rattle.cascade.specs.Columns.{columns};
 ghost use Rattle.cascade.specs.State.{Steady};
 ghost use Rattle.roll.specs.Roll.{Room};
 ghost use Rattle.report.specs.Sheet.{sheet, reportBytes, Placed};
-ghost use Rattle.allotment.specs.Answered.{Answered, Listed};
+ghost use Rattle.allotment.specs.Answered.{Answered, Listed, Judged};
 ghost use Rattle.allotment.specs.Worked.{listingRoom, atFirst, closedOf, Came};
 
 // A buffer that every listing fits: 256 lines of at most 26 bytes, and at most 33 before them.
@@ -176,18 +176,18 @@ pub fn allot(book: &[u8], report: &mut [u8]) -> Answer
     )
 }
 
-// The same for C.
-#[no_mangle]
-pub extern "C" fn frundavel_allot(book: &[u8], report: &mut [u8]) -> Answer
-    ensures { λ r. ⌜ Answered (answer (now (book .entry)) (length (now (report .entry)))) r (now (report .entry)) (now (report .exit)) ⌝ }
-{
-    allot(book, report)
+// What a listing says: the book's number and place, and how many bytes of the buffer it takes.
+pub struct Listing {
+    pub number: u64,
+    pub place: u64,
+    pub length: usize,
 }
 
-// The listing of a book, at the front of a buffer that is always large enough; its length is returned.
-pub fn list(book: &[u8], out: &mut [u8]) -> usize
+// The listing of a book, at the front of a buffer that is always large enough.
+pub fn list(book: &[u8], out: &mut [u8]) -> Listing
     requires { ⌜ listingRoom ≤ length (now out) ⌝ }
-    ensures { λ r. ⌜ Listed (listing (now (book .entry))) (now (out .entry)) (now (out .exit)) r ⌝ }
+    ensures { λ r. ⌜ Listed (listing (now (book .entry))) (now (out .entry)) (now (out .exit)) (r .length) ⌝ }
+    ensures { λ r. ⌜ Judged (judge (now (book .entry))) (r .number) (r .place) ⌝ }
 {
     let mut keys = [0u64; MOST_CUSTOMERS];
     let mut starts = [0u16; MOST_CUSTOMERS];
@@ -196,18 +196,26 @@ pub fn list(book: &[u8], out: &mut [u8]) -> usize
     let worked = work_out(book, &mut keys, &mut starts, &mut standings, &mut stakes);
     let stopped = worked.refusal;
     if stopped.number != refusal::ACCEPTED {
-        return printing::put_refusal(out, stopped.number, stopped.place as u64);
+        return Listing {
+            number: stopped.number,
+            place: stopped.place as u64,
+            length: printing::put_refusal(out, stopped.number, stopped.place as u64),
+        };
     }
     let offset = worked.offset;
-    report::put_sheet(
-        out,
-        book,
-        &starts,
-        &standings,
-        &offset,
-        worked.count,
-        worked.total,
-        worked.residue,
-        true,
-    )
+    Listing {
+        number: refusal::ACCEPTED,
+        place: 0,
+        length: report::put_sheet(
+            out,
+            book,
+            &starts,
+            &standings,
+            &offset,
+            worked.count,
+            worked.total,
+            worked.residue,
+            true,
+        ),
+    }
 }

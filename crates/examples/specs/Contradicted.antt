@@ -25,6 +25,7 @@ use Rattle.cases.specs.Case.{Holds, so}
 use Rattle.cases.specs.Tables.{gold, customer, book}
 use Rattle.cases.specs.Cases.{theListing}
 use Rattle.writing.specs.Written.{written-front}
+use Rattle.allotment.specs.declared.Listing.{Listing}
 use Rattle.allotment.proofs as allotment
 use Rattle.examples.specs.Allowed.{Tried, tried, allowed, Contradicted, done, _&_, none-given}
 
@@ -93,15 +94,15 @@ pub contradicted : Contradicted wrong
 unfolding answer figureOf openingOf isCode fieldsOf within step judge gainFrom totalGain standing leftOver rank shareOf share lineOf quantity after cascade outcome digits reported report
 contradicted = none-given wrong (so & so & so & so & so & so & so & so & so & so & so & so & so & so & so & so & so & so & so & so & done)
 
--- What the program's `list` leaves at the front of the buffer, as many bytes as it returns, is the listing: a refused book is not listed as one
+-- What the program's `list` leaves at the front of the buffer, as many bytes as it says, is the listing: a refused book is not listed as one
 -- without customers.
-module _ (κs : Lfts 2) (a : Args allotment.list.signature κs) (r : ℕ) (s : AtExit allotment.list.ended κs) (h : allotment.list.Reads.Learnt κs a r s) where
-  pub listed : take r (now (s .1 .0)) ≡ listing (now (a .0))
+module _ (κs : Lfts 2) (a : Args allotment.list.signature κs) (r : Listing) (s : AtExit allotment.list.ended κs) (h : allotment.list.Reads.Learnt κs a r s) where
+  pub listed : take (r .length) (now (s .1 .0)) ≡ listing (now (a .0))
   listed =
       let text = listing (now (a .0)) in
-      ap₂ take (h .size) (h .buffer ∙ written-front text (now (a .1 .0))) ∙ take-at text (drop (length text) (now (a .1 .0))) (length text) refl
+      ap₂ take (h .0 .size) (h .0 .buffer ∙ written-front text (now (a .1 .0))) ∙ take-at text (drop (length text) (now (a .1 .0))) (length text) refl
 
-  pub not-without-customers : now (a .0) ≡ comma → take r (now (s .1 .0)) ≡ bytes "total 0\nleft 0\n" → ⊥
+  pub not-without-customers : now (a .0) ≡ comma → take (r .length) (now (s .1 .0)) ≡ bytes "total 0\nleft 0\n" → ⊥
   unfolding figureOf openingOf isCode fieldsOf within step judge digits listing
   not-without-customers book shown =
       let refused : listing (now (a .0)) ≡ bytes "refused 4 at 13\n" = ap listing book in

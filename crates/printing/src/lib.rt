@@ -23,7 +23,7 @@ pub fn put_printed(out: &mut [u8], at: usize, code: &[u8], standing: Standing, o
     put_byte(out, feed, b'\n')
 }
 
-fn put_worded(out: &mut [u8], at: usize, words: &[u8], n: u64) -> usize
+pub fn put_worded(out: &mut [u8], at: usize, words: &[u8], n: u64) -> usize
     requires { ⌜ Room at (now words ++ digits n) (now out) ⌝ }
     ensures { λ r. ⌜ Wrote at (now (words .entry) ++ digits n) (now (out .entry)) (now (out .exit)) r ⌝ }
 {

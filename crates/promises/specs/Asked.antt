@@ -15,7 +15,10 @@ use Rattle.fields.proofs as fields
 use Rattle.terms.proofs as terms
 use Rattle.writing.proofs as writing
 use Rattle.entries.proofs as entries
+use Rattle.reasons.proofs as reasons
 use Rattle.allotment.proofs as allotment
+use Rattle.frundavel.proofs as frundavel
+use Rattle.command.proofs as command
 
 abbrev pub AsksNothing : (T : Ended) → ((κs : Lfts (T .signature .lifetimes)) → Args (T .signature) κs → Type 0) → Type 0
 AsksNothing T Asked = (κs : Lfts (T .signature .lifetimes)) (a : Args (T .signature) κs) → Asked κs a
@@ -24,8 +27,11 @@ AsksNothing T Asked = (κs : Lfts (T .signature .lifetimes)) (a : Args (T .signa
 pub allot : AsksNothing allotment.allot.ended allotment.allot.Reads.Asked
 allot κs a = tt
 
-pub frundavel-allot : AsksNothing allotment.frundavel_allot.ended allotment.frundavel_allot.Reads.Asked
+pub frundavel-allot : AsksNothing frundavel.frundavel_allot.ended frundavel.frundavel_allot.Reads.Asked
 frundavel-allot κs a = tt
+
+pub frundavel-reason : AsksNothing frundavel.frundavel_reason.ended frundavel.frundavel_reason.Reads.Asked
+frundavel-reason κs a = tt
 
 -- 8,192 bytes, no more and no less
 pub list : (κs : Lfts 2) (a : Args allotment.list.signature κs) → allotment.list.Reads.Asked κs a ↔ (8_192 ≤ length (now (a .1 .0)))
@@ -64,3 +70,9 @@ letter-of κs a = tt
 
 pub head-length : AsksNothing entries.head_length.ended entries.head_length.Reads.Asked
 head-length κs a = tt
+
+pub reason-field : AsksNothing reasons.field_at.ended reasons.field_at.Reads.Asked
+reason-field κs a = tt
+
+pub word-of : AsksNothing command.word_of.ended command.word_of.Reads.Asked
+word-of κs a = tt

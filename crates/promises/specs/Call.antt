@@ -9,13 +9,14 @@ use denote.Triple.Entry.{Args}
 use denote.Triple.Clauses.{AtExit}
 use Rattle.allotment.specs.declared.Answer.{Answer}
 use Rattle.allotment.proofs as allotment
+use Rattle.frundavel.proofs as frundavel
 
 pub record Call : Type 0 where
   pub lifetimes : Lfts 2
-  pub arguments : Args allotment.frundavel_allot.signature lifetimes
+  pub arguments : Args frundavel.frundavel_allot.signature lifetimes
   pub answer : Answer
-  pub exit : AtExit allotment.frundavel_allot.ended lifetimes
-  pub contract : allotment.frundavel_allot.Reads.Learnt lifetimes arguments answer exit
+  pub exit : AtExit frundavel.frundavel_allot.ended lifetimes
+  pub contract : frundavel.frundavel_allot.Reads.Learnt lifetimes arguments answer exit
 
 -- the book; the report buffer as it was lent, and as it is left
 module _ (c : Call) where

@@ -15,6 +15,7 @@ use Rattle.fields.proofs as fields
 use Rattle.terms.proofs as terms
 use Rattle.trades.proofs as trades
 use Rattle.group.proofs as group
+use Rattle.command.proofs as command
 
 -- what a contract says of the arguments, the result and the arguments at exit, for a signature
 abbrev pub Contract : Ended → Type 1
@@ -94,3 +95,13 @@ oldest-gain κs a r q s t e f = (e ∙ sym f, refl)
 -- group: whatever the code
 pub read-group : Determined group.read_group.ended group.read_group.Reads.Learnt
 read-group κs a r q s t e f = (e [] ∙ sym (f []), refl)
+
+-- command
+pub word-of : Determined command.word_of.ended command.word_of.Reads.Learnt
+word-of κs a r q s t e f = (e ∙ sym f, refl)
+
+pub next : Determined command.next.ended command.next.Reads.Learnt
+next κs a r q s t e f = (e ∙ sym f, refl)
+
+pub settled : Determined command.settled.ended command.settled.Reads.Learnt
+settled κs a r q s t e f = (e ∙ sym f, refl)

@@ -10,7 +10,8 @@ use Rattle.roll.specs.declared.Roll.{Roll}
 use Rattle.roll.specs.Roll.{Columns, Rolled}
 use Rattle.rules.specs.Answer.{Answer as Answer01}
 use Rattle.allotment.specs.declared.Answer.{Answer}
-use Rattle.allotment.specs.Answered.{Answered}
+use Rattle.allotment.specs.declared.Listing.{Listing}
+use Rattle.allotment.specs.Answered.{Answered, Judged}
 use Rattle.division.proofs as division
 use Rattle.cascade.proofs as cascade
 use Rattle.writing.proofs as writing
@@ -18,7 +19,9 @@ use Rattle.entries.proofs as entries
 use Rattle.printing.proofs as printing
 use Rattle.roll.proofs as roll
 use Rattle.report.proofs as report
+use Rattle.reasons.proofs as reasons
 use Rattle.allotment.proofs as allotment
+use Rattle.frundavel.proofs as frundavel
 use Rattle.promises.specs.Determined.{Determined}
 
 -- a contract that names the bytes written into the buffer that is lent first, and the place behind them
@@ -82,8 +85,21 @@ put-printed κs a r q s t e f = wrote e f
 pub put-printed-head : Determined printing.put_printed_head.ended printing.put_printed_head.Reads.Learnt
 put-printed-head κs a r q s t e f = wrote e f
 
+pub put-worded : Determined printing.put_worded.ended printing.put_worded.Reads.Learnt
+put-worded κs a r q s t e f = wrote e f
+
 pub put-refusal : Determined printing.put_refusal.ended printing.put_refusal.Reads.Learnt
 put-refusal κs a r q s t e f = wrote e f
+
+-- reasons
+pub field-at : Determined reasons.field_at.ended reasons.field_at.Reads.Learnt
+field-at κs a r q s t e f = (e ∙ sym f, refl)
+
+pub put-reason : Determined reasons.put_reason.ended reasons.put_reason.Reads.Learnt
+put-reason κs a r q s t e f = wrote e f
+
+pub put-said : Determined reasons.put_said.ended reasons.put_said.Reads.Learnt
+put-said κs a r q s t e f = wrote e f
 
 -- roll: what it returns, and its four columns
 module _ (book : List ℕ) (r q : Roll) (k l m n k′ l′ m′ n′ : List ℕ) where
@@ -105,8 +121,15 @@ pub put-sheet : Determined report.put_sheet.ended report.put_sheet.Reads.Learnt
 put-sheet κs a r q s t e f = wrote e f
 
 -- allotment
+same-listing : (v : Verdict) (r q : Listing) → r .length ≡ q .length → Judged v (r .number) (r .place) → Judged v (q .number) (q .place) → r ≡ q
+same-listing (Refused n place) r q l e f = λ i. record { number = (e .0 ∙ sym (f .0)) i; place = (e .1 ∙ sym (f .1)) i; length = l i }
+same-listing (Accepted terms cs) r q l e f = λ i. record { number = (e .0 ∙ sym (f .0)) i; place = (e .1 ∙ sym (f .1)) i; length = l i }
+
 pub list : Determined allotment.list.ended allotment.list.Reads.Learnt
-list κs a r q s t e f = (e .size ∙ sym (f .size), ap (λ out. (tt, (out, tt))) (e .buffer ∙ sym (f .buffer)))
+list κs a r q s t e f = (
+  same-listing (judge (now (a .0))) r q (e .0 .size ∙ sym (f .0 .size)) (e .1) (f .1),
+  ap (λ out. (tt, (out, tt))) (e .0 .buffer ∙ sym (f .0 .buffer)),
+)
 
 -- a contract that names the three numbers, and the bytes of the buffer that is lent second
 answered : {a : Answer01} {r q : Answer} {entry x y : List ℕ} → Answered a r entry x → Answered a q entry y →
@@ -119,5 +142,12 @@ answered e f = (
 pub allot : Determined allotment.allot.ended allotment.allot.Reads.Learnt
 allot κs a r q s t e f = answered e f
 
-pub frundavel-allot : Determined allotment.frundavel_allot.ended allotment.frundavel_allot.Reads.Learnt
+-- the calls for C
+pub frundavel-allot : Determined frundavel.frundavel_allot.ended frundavel.frundavel_allot.Reads.Learnt
 frundavel-allot κs a r q s t e f = answered e f
+
+pub frundavel-reason : Determined frundavel.frundavel_reason.ended frundavel.frundavel_reason.Reads.Learnt
+frundavel-reason κs a r q s t e f = (
+  answered e f .0,
+  ap (λ (l : Unit {0} × (List ℕ × Unit {0})). (tt, (tt, l))) (answered e f .1),
+)

@@ -1,6 +1,7 @@
 -- What the book comes to is its answer.
 -- Assumes nothing.
-use Rattle.allotment.proofs.Calls.{Stops, stops, Goes, goes, refused-so}
+use Rattle.allotment.proofs.Calls.{Stops, stops, Goes, goes}
+use Rattle.allotment.specs.Answering.{refused-so}
 use borrow.Author.Needs.{needs}
 use Rattle.allotment.proofs.allot.Statement.{statement}
 use Rattle.allotment.proofs.allot.Tie as tie

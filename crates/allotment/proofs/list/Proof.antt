@@ -72,12 +72,14 @@ same-length c = search needs
 returns : tie.Need-returns
 returns c =
     let p = c .before .before in
-    let t = p .before .before in
-    rw (stopped t .lists) (record {
-      buffer = p .put-refusal .ensures .whole;
-      size = p .put-refusal .ensures .next ∙ zero-add _;
-      room = omega (arith, short t, begin (came (t .before)) .pre, p .put-refusal .ensures .next);
-    })
+    let t = p .before .before in (
+      rw (stopped t .lists) (record {
+        buffer = p .put-refusal .ensures .whole;
+        size = p .put-refusal .ensures .next ∙ zero-add _;
+        room = omega (arith, short t, begin (came (t .before)) .pre, p .put-refusal .ensures .next);
+      }),
+      stopped t .judged,
+    )
 
 slice-aggregate-put-sheet : tie.Need-slice-aggregate-put-sheet
 slice-aggregate-put-sheet c = search needs
@@ -98,12 +100,14 @@ returns-2 : tie.Need-returns-2
 returns-2 c =
     let p = c .before .before in
     let e = p .before .before .before .before .before .before in
-    let g = gone e in
-    rw (g .lists) (record {
-      buffer = p .put-sheet .ensures .whole;
-      size = p .put-sheet .ensures .next ∙ zero-add _;
-      room = omega (arith, g .short, begin (came (e .before)) .pre, p .put-sheet .ensures .next);
-    })
+    let g = gone e in (
+      rw (g .lists) (record {
+        buffer = p .put-sheet .ensures .whole;
+        size = p .put-sheet .ensures .next ∙ zero-add _;
+        room = omega (arith, g .short, begin (came (e .before)) .pre, p .put-sheet .ensures .next);
+      }),
+      g .judged,
+    )
 
 pub list-spec : {M : Type 1} → statement M
 list-spec =

@@ -4,7 +4,7 @@ use Prim.Native.Nat.{ℕ}
 use mathlib.Core.List.{List}
 use native.Mathlib.Omega.{arith}
 use Rattle.report.specs.Sheet.{sheet, reportBytes}
-use Rattle.allotment.proofs.Calls.{too-small, fits}
+use Rattle.allotment.specs.Answering.{too-small, fits}
 use borrow.Author.Needs.{needs}
 use Rattle.allotment.proofs.report_lines.Statement.{statement}
 use Rattle.allotment.proofs.report_lines.Tie as tie

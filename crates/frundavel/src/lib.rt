@@ -1,0 +1,45 @@
+// Every call for C, in one archive. A call takes the bytes as they come and asks for nothing.
+use allotment::Answer;
+use rules::refusal;
+use writing::put_bytes;
+ghost use lib.ListN.{length};
+ghost use Rattle.rules.specs.Answer.{fitted, answer};
+ghost use Rattle.reasons.specs.Reason.{fieldAt, reason};
+ghost use Rattle.allotment.specs.Answered.{Answered};
+
+// A book and a lent buffer: the answer, and the report at the front of the buffer where the book is accepted.
+#[no_mangle]
+pub extern "C" fn frundavel_allot(book: &[u8], report: &mut [u8]) -> Answer
+    ensures { λ r. ⌜ Answered (answer (now (book .entry)) (length (now (report .entry)))) r (now (report .entry)) (now (report .exit)) ⌝ }
+{
+    allotment::allot(book, report)
+}
+
+// A text at the front of a lent buffer, or 11.
+fn hand_over(text: &[u8], out: &mut [u8]) -> Answer
+    ensures { λ r. ⌜ Answered (fitted (length (now (out .entry))) (now (text .entry))) r (now (out .entry)) (now (out .exit)) ⌝ }
+{
+    if out.len() < text.len() {
+        return Answer {
+            number: refusal::NO_ROOM,
+            place: text.len() as u64,
+            length: 0,
+        };
+    }
+    let length = put_bytes(out, 0, text);
+    Answer {
+        number: refusal::ACCEPTED,
+        place: 0,
+        length: length as u64,
+    }
+}
+
+// The words for a refusal of a book, in a lent buffer.
+#[no_mangle]
+pub extern "C" fn frundavel_reason(number: u64, place: u64, book: &[u8], words: &mut [u8]) -> Answer
+    ensures { λ r. ⌜ Answered (fitted (length (now (words .entry))) (reason number (fieldAt (now (book .entry)) place))) r (now (words .entry)) (now (words .exit)) ⌝ }
+{
+    let mut text = [0u8; reasons::WORDS_ROOM];
+    let end = reasons::put_reason(&mut text, 0, number, reasons::field_at(book, place));
+    hand_over(&text[..end], words)
+}

@@ -1,0 +1,31 @@
+-- `reasons::field_at` meets its contract: a place behind the book has no byte, and 0 is no tag.
+-- Assumes nothing.
+use lib.ListN.{List·getD-eq-default}
+use borrow.Author.Needs.{needs}
+use Rattle.reasons.proofs.field_at.Statement.{statement}
+use Rattle.reasons.proofs.field_at.Tie as tie
+
+shared-slice-read-place-in : tie.Need-shared-slice-read-place-in
+shared-slice-read-place-in c = search needs
+
+slice-aggregate-place-in : tie.Need-slice-aggregate-place-in
+slice-aggregate-place-in c = search needs
+
+place-in-requires : tie.Need-place-in-requires
+place-in-requires c κs = search needs
+
+returns : tie.Need-returns
+returns c = search needs
+
+returns-2 : tie.Need-returns-2
+returns-2 c = rw (List·getD-eq-default (c .before .before .args .book .now) 0 (c .if1 .left))
+
+pub field-at-spec : {M : Type 1} → statement M
+field-at-spec =
+    tie.close
+    (tie.spec
+    shared-slice-read-place-in
+    slice-aggregate-place-in
+    place-in-requires
+    returns
+    returns-2)

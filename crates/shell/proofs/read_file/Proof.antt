@@ -1,0 +1,105 @@
+-- `shell::read_file` meets its contract: the path's length is that of the word, which fits its buffer.
+-- Assumes nothing.
+use native.Mathlib.Omega.{arith}
+use lib.ListN.{length, length-take}
+use borrow.Author.Needs.{needs}
+use Rattle.shell.proofs.read_file.Statement.{statement}
+use Rattle.shell.proofs.read_file.Tie as tie
+use Rattle.shell.proofs.read_file.Reads as reads
+use Rattle.shell.proofs.read_file.Lts as lts
+use Rattle.io.proofs.buffer.Reads as buffer-reads
+use Rattle.os.proofs.arg.Reads as arg-reads
+use Rattle.os.proofs.errno.Reads as errno-reads
+use Rattle.os.proofs.open_read.Reads as open-read-reads
+use Rattle.shell.proofs.failed.Reads as failed-reads
+use Rattle.shell.proofs.make_visible.Reads as make-visible-reads
+use Rattle.shell.proofs.read_from.Reads as read-from-reads
+
+buffer-requires : tie.Need-buffer-requires
+buffer-requires c κs = search needs
+
+slice-aggregate-arg : tie.Need-slice-aggregate-arg
+slice-aggregate-arg c = search needs
+
+arg-requires : tie.Need-arg-requires
+arg-requires c κs = search needs
+
+errno-requires : tie.Need-errno-requires
+errno-requires c κs = search needs
+
+slice-aggregate-failed : tie.Need-slice-aggregate-failed
+slice-aggregate-failed c = search needs
+
+failed-requires : tie.Need-failed-requires
+failed-requires c κs = search needs
+
+returns : tie.Need-returns
+returns c = search needs
+
+array-share-prefix-path : tie.Need-array-share-prefix-path
+array-share-prefix-path c = search needs
+
+slice-aggregate-open-read : tie.Need-slice-aggregate-open-read
+slice-aggregate-open-read c = search needs
+
+open-read-requires : tie.Need-open-read-requires
+open-read-requires c κs = search needs
+
+slice-aggregate-make-visible : tie.Need-slice-aggregate-make-visible
+slice-aggregate-make-visible c = search needs
+
+make-visible-requires : tie.Need-make-visible-requires
+make-visible-requires c κs = search needs
+
+array-share-prefix-path-2 : tie.Need-array-share-prefix-path-2
+array-share-prefix-path-2 c = search needs
+
+slice-aggregate-failed-2 : tie.Need-slice-aggregate-failed-2
+slice-aggregate-failed-2 c = simp length-take (omega arith)
+
+failed-requires-2 : tie.Need-failed-requires-2
+failed-requires-2 c κs = search needs
+
+returns-2 : tie.Need-returns-2
+returns-2 c = search needs
+
+array-share-prefix-path-3 : tie.Need-array-share-prefix-path-3
+array-share-prefix-path-3 c = search needs
+
+slice-aggregate-read-from : tie.Need-slice-aggregate-read-from
+slice-aggregate-read-from c = simp length-take (omega arith)
+
+read-from-requires : tie.Need-read-from-requires
+read-from-requires c κs = search needs
+
+same-length : tie.Need-same-length
+same-length c = search needs
+
+returns-3 : tie.Need-returns-3
+returns-3 c = search needs
+
+pub read-file-spec : {M : Type 1} → statement M
+read-file-spec =
+    tie.close
+    (tie.spec
+    buffer-requires
+    slice-aggregate-arg
+    arg-requires
+    errno-requires
+    slice-aggregate-failed
+    failed-requires
+    returns
+    array-share-prefix-path
+    slice-aggregate-open-read
+    open-read-requires
+    slice-aggregate-make-visible
+    make-visible-requires
+    array-share-prefix-path-2
+    slice-aggregate-failed-2
+    failed-requires-2
+    returns-2
+    array-share-prefix-path-3
+    slice-aggregate-read-from
+    read-from-requires
+    same-length
+    returns-3)
