@@ -1,7 +1,10 @@
 -- `command::word_of` meets its contract, test by test.
 -- Assumes nothing.
 use mathlib.Core.Path.{_≡_, sym, _∙_}
+use Prim.Native.Nat.{ℕ}
 use mathlib.Core.Bool.{true, false}
+use mathlib.Core.List.{List}
+use Rattle.command.specs.declared.Word.the-variants.{Help}
 use Rattle.rules.specs.Text.{bytes}
 use Rattle.rules.specs.Codes.{same}
 use Rattle.command.specs.Asked.{beginsOption, wordOf}
@@ -33,9 +36,12 @@ slice-aggregate-is c = search needs
 is-requires : tie.Need-is-requires
 is-requires c κs = search needs
 
-returns : tie.Need-returns
+helps : (w : List ℕ) → same w (bytes "--help") ≡ true → wordOf w ≡ Help
 unfolding wordOf
-returns c = simp (sym (c .before .is .ensures) ∙ c .if1 .taken)
+helps w e = simp e
+
+returns : tie.Need-returns
+returns c = sym (helps (c .before .before .before .before .args .word .now) (sym (c .before .is .ensures) ∙ c .if1 .taken))
 
 slice-aggregate-is-2 : tie.Need-slice-aggregate-is-2
 slice-aggregate-is-2 c = search needs
