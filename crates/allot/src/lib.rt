@@ -4,11 +4,9 @@ use rules::refusal;
 use shell::Input;
 ghost use mathlib.Core.Path.{_≡_};
 ghost use lib.ListN.{length};
-ghost use lib.IntN.{ℤ, pos};
 ghost use Prim.Native.Nat.{_≤_};
 ghost use Rattle.rules.specs.Book.{judge};
 ghost use Rattle.rules.specs.Report.{listing};
-ghost use Rattle.writing.specs.Written.{Wrote};
 ghost use Rattle.allotment.specs.Answered.{Listed};
 ghost use Rattle.allot.specs.Told.{statusOf, saidOf, Ends, Exit};
 

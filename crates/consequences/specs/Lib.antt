@@ -19,3 +19,4 @@ pub mod DistinctPicks
 pub mod Accepted
 pub mod Rearrange
 pub mod ReportLength
+pub mod Cut

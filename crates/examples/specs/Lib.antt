@@ -6,3 +6,4 @@ pub mod Contradicted
 pub mod Divided
 pub mod Cascaded
 pub mod Leaves
+pub mod Said

@@ -1,7 +1,7 @@
 -- A text of lines, each ended by one line feed: the line at place k, counted from 0; and that no line is longer than the widest.
 -- Assumes nothing.
 use Prim.Native.Nat.{ℕ, suc, _-_, max}
-use mathlib.Core.Bool.{Bool, true, false, cond}
+use mathlib.Core.Bool.{cond}
 use mathlib.Core.List.{List, [], _∷_}
 use lib.Dec.{eqb}
 use Rattle.rules.specs.Text.{is}

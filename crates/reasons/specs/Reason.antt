@@ -37,22 +37,25 @@ names =
     bytes "the sold trade A\n" ++
     bytes "the end Z\n"
 
--- what stands before a field's name, and behind it, for the numbers 0 to 5
+-- what stands before a field's name, for the numbers 0 to 5
 abbrev pub leads : List ℕ
-leads = bytes "\n" ++ bytes "\n" ++ bytes "the book ends before \n" ++ bytes "\n" ++ bytes "a comma in \n" ++ bytes "\n"
-
-abbrev pub tails : List ℕ
-tails = bytes "\n" ++ bytes "\n" ++ bytes " is whole\n" ++ bytes " does not belong here\n" ++ bytes "\n" ++ bytes " is not of its form or range\n"
+leads =
+    bytes "\n" ++
+    bytes "\n" ++
+    bytes "the book ends before the end of \n" ++
+    bytes "a tag that does not belong here: \n" ++
+    bytes "a comma in \n" ++
+    bytes "not of its form or range: \n"
 
 -- the words of each number from 0 on where no field is named; the last line is for a number that is none
 abbrev pub plain : List ℕ
 plain =
     bytes "accepted\n" ++
     bytes "the book has more than 60,000 bytes\n" ++
-    bytes "the book ends before a field is whole\n" ++
-    bytes "no field begins with this byte\n" ++
+    bytes "the book ends before the end of a field\n" ++
+    bytes "a byte that is no tag\n" ++
     bytes "a comma in a figure\n" ++
-    bytes "a value is not of its form or range\n" ++
+    bytes "a value that is not of its form or range\n" ++
     bytes "the tier 1 edge U is not greater than the tier 2 edge V\n" ++
     bytes "this customer code was given before\n" ++
     bytes "the unfilled lots Q exceed the lots held on the locked side\n" ++
@@ -66,7 +69,7 @@ abbrev pub named : ℕ → ℕ → Bool
 named n f = cond (ltb f 12) (cond (leb 2 n) (leb n 5) false) false
 
 unfoldable pub withField : ℕ → ℕ → List ℕ
-withField n f = lineOf n leads ++ (lineOf f names ++ lineOf n tails)
+withField n f = lineOf n leads ++ lineOf f names
 
 unfoldable pub reason : ℕ → ℕ → List ℕ
 reason n f = cond (named n f) (withField n f) (lineOf (min n 12) plain)

@@ -1,8 +1,7 @@
 -- How long words are: a line is at most as long as the widest of its text, so that the words of every refusal fit 128 bytes.
 -- Assumes nothing.
 use Prim.Native.Nat.{ℕ, suc, _+_, _≤_, min}
-use mathlib.Core.Path.{_≡_, refl}
-use mathlib.Core.Bool.{Bool, true, false}
+use mathlib.Core.Path.{_≡_}
 use mathlib.Core.List.{List, [], _∷_}
 use native.Mathlib.Omega.{arith}
 use lib.ListN.{length, length-append}
@@ -11,7 +10,7 @@ use Rattle.rules.specs.Text.{is}
 use Rattle.rules.specs.Report.{digits}
 use Rattle.laws.specs.ByTest.{by-test}
 use Rattle.reasons.specs.Lines.{leftBehind, behindLines, firstLine, lineOf, widestFrom}
-use Rattle.reasons.specs.Reason.{leads, names, tails, plain, named, withField, reason, why, said}
+use Rattle.reasons.specs.Reason.{leads, names, plain, named, withField, reason, why, said}
 
 -- a line that has n bytes already
 longer : (n : ℕ) (s : List ℕ) → n + length (firstLine s) ≤ widestFrom n s
@@ -35,7 +34,7 @@ pub line-short : (k : ℕ) (s : List ℕ) → length (lineOf k s) ≤ widestFrom
 unfolding lineOf
 line-short k s = omega (arith, longer 0 (behindLines k s), narrower k 0 s)
 
-pub with-length : (n f : ℕ) → length (withField n f) ≡ length (lineOf n leads) + (length (lineOf f names) + length (lineOf n tails))
+pub with-length : (n f : ℕ) → length (withField n f) ≡ length (lineOf n leads) + length (lineOf f names)
 unfolding withField
 with-length n f = simp length-append
 
@@ -47,7 +46,7 @@ pub reason-short : (n f : ℕ) → length (reason n f) ≤ wordsRoom
 unfolding reason
 reason-short n f =
     by-test (named n f)
-    (λ e. simp e (omega (arith, with-length n f, line-short n leads, line-short f names, line-short n tails)))
+    (λ e. simp e (omega (arith, with-length n f, line-short n leads, line-short f names)))
     (λ e. simp e (omega (arith, line-short (min n 12) plain)))
 
 pub why-length : (n f : ℕ) → length (why n f) ≡ 3 + length (reason n f)

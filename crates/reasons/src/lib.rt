@@ -104,7 +104,7 @@ fn names_field(number: u64, field: usize) -> bool
     false
 }
 
-// Words with a field's name in them: what stands before it, the name, and what stands behind it.
+// Words that name a field: what stands before the name, and the name.
 fn put_named(out: &mut [u8], at: usize, number: usize, field: usize) -> usize
     requires { ⌜ Room at (withField number field) (now out) ⌝ }
     ensures { λ r. ⌜ Wrote at (withField number field) (now (out .entry)) (now (out .exit)) r ⌝ }
@@ -112,20 +112,14 @@ fn put_named(out: &mut [u8], at: usize, number: usize, field: usize) -> usize
     let name = put_line(
         out,
         at,
-        b"\n\nthe book ends before \n\na comma in \n\n",
+        b"\n\nthe book ends before the end of \na tag that does not belong here: \na comma in \nnot of its form or range: \n",
         number,
     );
-    let rest = put_line(
+    put_line(
         out,
         name,
         b"the limit D\nthe settlement price S\nthe loss edge L\nthe tier 1 edge U\nthe tier 2 edge V\nthe customer code C\nthe lots held long K\nthe lots held short H\nthe unfilled lots Q\nthe bought trade B\nthe sold trade A\nthe end Z\n",
         field,
-    );
-    put_line(
-        out,
-        rest,
-        b"\n\n is whole\n does not belong here\n\n is not of its form or range\n",
-        number,
     )
 }
 
@@ -140,7 +134,7 @@ pub fn put_reason(out: &mut [u8], at: usize, number: u64, field: usize) -> usize
     put_line(
         out,
         at,
-        b"accepted\nthe book has more than 60,000 bytes\nthe book ends before a field is whole\nno field begins with this byte\na comma in a figure\na value is not of its form or range\nthe tier 1 edge U is not greater than the tier 2 edge V\nthis customer code was given before\nthe unfilled lots Q exceed the lots held on the locked side\nthis customer's opening trades sum to less than its net position\nmore than 256 customers\nthe report is longer than the buffer\nno such number\n",
+        b"accepted\nthe book has more than 60,000 bytes\nthe book ends before the end of a field\na byte that is no tag\na comma in a figure\na value that is not of its form or range\nthe tier 1 edge U is not greater than the tier 2 edge V\nthis customer code was given before\nthe unfilled lots Q exceed the lots held on the locked side\nthis customer's opening trades sum to less than its net position\nmore than 256 customers\nthe report is longer than the buffer\nno such number\n",
         lesser(number, NO_NUMBER) as usize,
     )
 }

@@ -2,7 +2,6 @@
 // status. Of what the C functions do, the kit's contracts say how many bytes moved at most; that these are the file's is not proved.
 use command::Asked;
 use command::Seen;
-use command::Word;
 ghost use mathlib.Core.Path.{_≡_};
 ghost use mathlib.Core.Logic.{_⊎_};
 ghost use Prim.Native.Nat.{_≤_};

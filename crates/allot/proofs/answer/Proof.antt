@@ -7,10 +7,6 @@ use lib.ListN.{length-take}
 use borrow.Author.Needs.{needs}
 use Rattle.allot.proofs.answer.Statement.{statement}
 use Rattle.allot.proofs.answer.Tie as tie
-use Rattle.allot.proofs.answer.Reads as reads
-use Rattle.allot.proofs.answer.Lts as lts
-use Rattle.allot.proofs.tell.Reads as tell-reads
-use Rattle.shell.proofs.finish.Reads as finish-reads
 
 slice-aggregate-tell : tie.Need-slice-aggregate-tell
 slice-aggregate-tell c = search needs

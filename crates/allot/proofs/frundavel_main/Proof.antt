@@ -11,10 +11,6 @@ use Rattle.allot.proofs.Tells.{small, held, exits}
 use borrow.Author.Needs.{needs}
 use Rattle.allot.proofs.frundavel_main.Statement.{statement}
 use Rattle.allot.proofs.frundavel_main.Tie as tie
-use Rattle.allot.proofs.frundavel_main.Reads as reads
-use Rattle.allot.proofs.frundavel_main.Lts as lts
-use Rattle.allot.proofs.answer.Reads as answer-reads
-use Rattle.shell.proofs.begin.Reads as begin-reads
 
 -- what was read fits the buffer; a program that ends early has a status
 read : (k : tie.After-n) → k .n .given .0 .0 ≤ 60_001

@@ -14,11 +14,6 @@ use Rattle.allot.proofs.Tells.{short, refused, accepted}
 use borrow.Author.Needs.{needs}
 use Rattle.allot.proofs.tell.Statement.{statement}
 use Rattle.allot.proofs.tell.Tie as tie
-use Rattle.allot.proofs.tell.Reads as reads
-use Rattle.allot.proofs.tell.Lts as lts
-use Rattle.allotment.proofs.list.Reads as list-reads
-use Rattle.reasons.proofs.field_at.Reads as field-at-reads
-use Rattle.reasons.proofs.put_said.Reads as put-said-reads
 
 abbrev listed : tie.After-field-at → tie.After-list
 listed f = f .before .before .before .before .before

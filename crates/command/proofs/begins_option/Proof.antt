@@ -5,8 +5,6 @@ use lib.ListN.{List·getD-eq-default}
 use borrow.Author.Needs.{needs}
 use Rattle.command.proofs.begins_option.Statement.{statement}
 use Rattle.command.proofs.begins_option.Tie as tie
-use Rattle.command.proofs.begins_option.Reads as reads
-use Rattle.command.proofs.begins_option.Lts as lts
 
 returns : tie.Need-returns
 returns c = rw (List·getD-eq-default (c .before .args .word .now) 0 {n = 0} (omega (arith, c .if1 .taken)))

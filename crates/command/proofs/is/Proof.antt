@@ -9,8 +9,6 @@ use Rattle.command.proofs.Words.{other-length, next-equal, next-other, 
 use borrow.Author.Needs.{needs}
 use Rattle.command.proofs.is.Statement.{statement}
 use Rattle.command.proofs.is.Tie as tie
-use Rattle.command.proofs.is.Reads as reads
-use Rattle.command.proofs.is.Lts as lts
 
 abbrev Inv-loop : tie.InvT-loop
 Inv-loop word other i₀ i = (i ≤ length word) × (length word ≡ length other) × (same word other ≡ same (drop i word) (drop i other))

@@ -7,14 +7,10 @@ use mathlib.Core.List.{List}
 use Rattle.command.specs.declared.Word.the-variants.{Help}
 use Rattle.rules.specs.Text.{bytes}
 use Rattle.rules.specs.Codes.{same}
-use Rattle.command.specs.Asked.{beginsOption, wordOf}
+use Rattle.command.specs.Asked.{wordOf}
 use borrow.Author.Needs.{needs}
 use Rattle.command.proofs.word_of.Statement.{statement}
 use Rattle.command.proofs.word_of.Tie as tie
-use Rattle.command.proofs.word_of.Reads as reads
-use Rattle.command.proofs.word_of.Lts as lts
-use Rattle.command.proofs.begins_option.Reads as begins-option-reads
-use Rattle.command.proofs.is.Reads as is-reads
 
 -- what each test says where it fails
 help-not : (c : tie.Else1) → same (c .before .before .before .before .args .word .now) (bytes "--help") ≡ false

@@ -1,6 +1,5 @@
 -- `frundavel::hand_over` meets its contract: 11 where the text is longer than the buffer.
 -- Assumes nothing.
-use native.Mathlib.Omega.{arith}
 use mathlib.Core.Path.{refl}
 use borrow.Author.Needs.{needs}
 use Rattle.allotment.specs.Answering.{too-small, fits}

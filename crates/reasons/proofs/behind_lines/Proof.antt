@@ -1,10 +1,9 @@
 -- `reasons::behind_lines` meets its contract: what stands behind k lines is what stands, from i on, behind those that are left.
 -- Assumes nothing.
 use borrow.Author.Needs.{needs}
-use borrow.Author.Tests.{eq-eqb, ne-eqb}
+use borrow.Author.Tests.{ne-eqb}
 use Prim.Native.Nat.{_≤_, _-_}
 use mathlib.Core.Path.{_≡_, refl, sym, ap, _∙_}
-use native.Mathlib.Omega.{arith}
 use lib.ListN.{length, drop, drop-of-length-le}
 use Rattle.reasons.specs.Lines.{behindLines}
 use Rattle.reasons.proofs.Texts.{drop-step, all-left}

@@ -1,10 +1,5 @@
 -- `reasons::put_line` meets its contract: the part of the text that is put is its line at place k.
 -- Assumes nothing.
-use native.Mathlib.Omega.{arith}
-use mathlib.Core.Path.{ap}
-use mathlib.Core.List.{List}
-use Prim.Native.Nat.{ℕ}
-use lib.ListN.{length}
 use borrow.Author.Needs.{needs}
 use Rattle.reasons.proofs.Texts.{line-within, line-part}
 use Rattle.reasons.proofs.put_line.Statement.{statement}

@@ -1,4 +1,4 @@
--- `reasons::put_named` meets its contract: the three lines join.
+-- `reasons::put_named` meets its contract: the two lines join.
 -- Assumes nothing.
 use native.Mathlib.Omega.{arith}
 use borrow.Author.Needs.{needs}
@@ -22,28 +22,15 @@ put-line-requires-2 c κs =
     let a = c .before .before .before .before .before .before .before .before .args in
     omega (arith, with-length (a .number) (a .field), c .before .before .before .before .put-line .ensures .next)
 
-slice-aggregate-put-line-3 : tie.Need-slice-aggregate-put-line-3
-slice-aggregate-put-line-3 c = search needs
-
-put-line-requires-3 : tie.Need-put-line-requires-3
-put-line-requires-3 c κs =
-    let second = c .before .before .before .before in
-    let first = second .before .before .before .before .before in
-    let a = first .before .before .before .before .args in
-    omega (arith, with-length (a .number) (a .field), first .put-line .ensures .next, second .put-line2 .ensures .next)
-
 same-length : tie.Need-same-length
 same-length c = search needs
 
 returns : tie.Need-returns
 unfolding withField
 returns c =
-    let third = c .before .before in
-    let second = third .before .before .before .before .before in
+    let second = c .before .before in
     let first = second .before .before .before .before .before in
-    let a = first .before .before .before .before .args in
-    let l = with-length (a .number) (a .field) in
-    join (first .put-line .ensures) (join (second .put-line2 .ensures) (third .put-line3 .ensures) (omega (arith, l, first .put-line .ensures .next))) (omega arith)
+    join (first .put-line .ensures) (second .put-line2 .ensures) (omega arith)
 
 pub put-named-spec : {M : Type 1} → statement M
 put-named-spec =
@@ -53,7 +40,5 @@ put-named-spec =
     put-line-requires
     slice-aggregate-put-line-2
     put-line-requires-2
-    slice-aggregate-put-line-3
-    put-line-requires-3
     same-length
     returns)

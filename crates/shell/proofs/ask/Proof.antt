@@ -4,9 +4,6 @@ use Prim.Native.Nat.{_-_}
 use native.Mathlib.Omega.{arith}
 use Rattle.shell.proofs.ask.Statement.{statement}
 use Rattle.shell.proofs.ask.Tie as tie
-use Rattle.shell.proofs.ask.Reads as reads
-use Rattle.shell.proofs.ask.Lts as lts
-use Rattle.shell.proofs.take.Reads as take-reads
 
 abbrev Inv-loop : tie.InvT-loop
 Inv-loop count seen₀ i₀ seen i = Unit {0}

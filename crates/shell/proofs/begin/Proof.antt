@@ -5,14 +5,6 @@ use mathlib.Core.Logic.{⊎-elim}
 use borrow.Author.Needs.{needs}
 use Rattle.shell.proofs.begin.Statement.{statement}
 use Rattle.shell.proofs.begin.Tie as tie
-use Rattle.shell.proofs.begin.Reads as reads
-use Rattle.shell.proofs.begin.Lts as lts
-use Rattle.os.proofs.arg_count.Reads as arg-count-reads
-use Rattle.shell.proofs.ask.Reads as ask-reads
-use Rattle.shell.proofs.finish.Reads as finish-reads
-use Rattle.shell.proofs.read_file.Reads as read-file-reads
-use Rattle.shell.proofs.read_from.Reads as read-from-reads
-use Rattle.shell.proofs.wrong.Reads as wrong-reads
 
 arg-count-requires : tie.Need-arg-count-requires
 arg-count-requires c κs = search needs

@@ -5,11 +5,6 @@ use mathlib.Core.Logic.{inl, inr}
 use borrow.Author.Needs.{needs}
 use Rattle.shell.proofs.finish.Statement.{statement}
 use Rattle.shell.proofs.finish.Tie as tie
-use Rattle.shell.proofs.finish.Reads as reads
-use Rattle.shell.proofs.finish.Lts as lts
-use Rattle.shell.proofs.failed.Reads as failed-reads
-use Rattle.shell.proofs.put_out.Reads as put-out-reads
-use Rattle.shell.proofs.write_whole.Reads as write-whole-reads
 
 put-out-requires : tie.Need-put-out-requires
 put-out-requires c κs = search needs

@@ -1,19 +1,10 @@
 -- `shell::read_file` meets its contract: the path's length is that of the word, which fits its buffer.
 -- Assumes nothing.
 use native.Mathlib.Omega.{arith}
-use lib.ListN.{length, length-take}
+use lib.ListN.{length-take}
 use borrow.Author.Needs.{needs}
 use Rattle.shell.proofs.read_file.Statement.{statement}
 use Rattle.shell.proofs.read_file.Tie as tie
-use Rattle.shell.proofs.read_file.Reads as reads
-use Rattle.shell.proofs.read_file.Lts as lts
-use Rattle.io.proofs.buffer.Reads as buffer-reads
-use Rattle.os.proofs.arg.Reads as arg-reads
-use Rattle.os.proofs.errno.Reads as errno-reads
-use Rattle.os.proofs.open_read.Reads as open-read-reads
-use Rattle.shell.proofs.failed.Reads as failed-reads
-use Rattle.shell.proofs.make_visible.Reads as make-visible-reads
-use Rattle.shell.proofs.read_from.Reads as read-from-reads
 
 buffer-requires : tie.Need-buffer-requires
 buffer-requires c κs = search needs

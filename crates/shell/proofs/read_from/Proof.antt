@@ -7,10 +7,6 @@ use Rattle.shell.specs.Shell.{Fitting}
 use borrow.Author.Needs.{needs}
 use Rattle.shell.proofs.read_from.Statement.{statement}
 use Rattle.shell.proofs.read_from.Tie as tie
-use Rattle.shell.proofs.read_from.Reads as reads
-use Rattle.shell.proofs.read_from.Lts as lts
-use Rattle.shell.proofs.failed.Reads as failed-reads
-use Rattle.shell.proofs.read_whole.Reads as read-whole-reads
 
 read-whole-requires : tie.Need-read-whole-requires
 read-whole-requires c κs = search needs

@@ -2,15 +2,10 @@
 -- Assumes nothing.
 use Prim.Native.Nat.{_≤_}
 use mathlib.Core.Path.{_≡_}
-use native.Mathlib.Omega.{arith}
 use lib.ListN.{length}
 use borrow.Author.Needs.{needs}
 use Rattle.shell.proofs.read_more.Statement.{statement}
 use Rattle.shell.proofs.read_more.Tie as tie
-use Rattle.shell.proofs.read_more.Reads as reads
-use Rattle.shell.proofs.read_more.Lts as lts
-use Rattle.libc.proofs.read.Reads as read-reads
-use Rattle.os.proofs.errno.Reads as errno-reads
 
 abbrev Inv-loop : tie.InvT-loop
 Inv-loop fd buffer₀ done turns₀ buffer turns = (done ≤ length buffer) × (length buffer ≡ length buffer₀)

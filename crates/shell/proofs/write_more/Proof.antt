@@ -1,15 +1,10 @@
 -- `shell::write_more` is safe and ends: each turn leaves fewer.
 -- Assumes nothing.
 use Prim.Native.Nat.{_≤_}
-use native.Mathlib.Omega.{arith}
 use lib.ListN.{length}
 use borrow.Author.Needs.{needs}
 use Rattle.shell.proofs.write_more.Statement.{statement}
 use Rattle.shell.proofs.write_more.Tie as tie
-use Rattle.shell.proofs.write_more.Reads as reads
-use Rattle.shell.proofs.write_more.Lts as lts
-use Rattle.libc.proofs.write.Reads as write-reads
-use Rattle.os.proofs.errno.Reads as errno-reads
 
 abbrev Inv-loop : tie.InvT-loop
 Inv-loop fd bytes done turns₀ turns = done ≤ length bytes

@@ -1,15 +1,10 @@
 -- `shell::write_whole` is safe and ends: what was written so far is not more than all, and each turn leaves less.
 -- Assumes nothing.
-use native.Mathlib.Omega.{arith}
 use Prim.Native.Nat.{_≤_, _-_}
-use lib.ListN.{length, length-drop}
+use lib.ListN.{length}
 use borrow.Author.Needs.{needs}
 use Rattle.shell.proofs.write_whole.Statement.{statement}
 use Rattle.shell.proofs.write_whole.Tie as tie
-use Rattle.shell.proofs.write_whole.Reads as reads
-use Rattle.shell.proofs.write_whole.Lts as lts
-use Rattle.io.proofs.count.Reads as count-reads
-use Rattle.shell.proofs.write_more.Reads as write-more-reads
 
 abbrev Inv-loop : tie.InvT-loop
 Inv-loop fd bytes done₀ done = done ≤ length bytes

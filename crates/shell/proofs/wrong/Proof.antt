@@ -5,12 +5,6 @@ use lib.ListN.{length-take}
 use borrow.Author.Needs.{needs}
 use Rattle.shell.proofs.wrong.Statement.{statement}
 use Rattle.shell.proofs.wrong.Tie as tie
-use Rattle.shell.proofs.wrong.Reads as reads
-use Rattle.shell.proofs.wrong.Lts as lts
-use Rattle.io.proofs.buffer.Reads as buffer-reads
-use Rattle.os.proofs.arg.Reads as arg-reads
-use Rattle.shell.proofs.make_visible.Reads as make-visible-reads
-use Rattle.shell.proofs.write_whole.Reads as write-whole-reads
 
 buffer-requires : tie.Need-buffer-requires
 buffer-requires c κs = search needs
