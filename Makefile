@@ -1,68 +1,122 @@
-# make           build the program and list the sample book
-# make check     all proofs and tests
-# make compare   COUNT generated books from SEED through the product and through the second program
-# make bench     the product's speed and stack beside the second program's; on a machine that is not x86-64, those of its code compiled for it
-# make install   program, header, archive, pkg-config file and manual page below PREFIX; make uninstall takes them away again
+# make            build the program and list the sample book
+# make all        build the program, the archive and the shared library
+# make check      all proofs and tests
+# make compare    COUNT generated books from SEED through the product and through the second program
+# make bench      the product's speed and stack beside the second program's
+# make install    what make all built, below PREFIX (/usr/local); a packager sets DESTDIR
+# make uninstall  take away what make install put there
+# make clean      remove all that was built
+# make help       this text
 #
-# Building needs the Rattle kit (rt). A packager sets DESTDIR. The product is for x86-64; on another machine the kit's emulator runs it here.
+# Building needs the Rattle kit (rt) and make alone; compare and bench need cargo and a C compiler too; check says what it needs. The
+# product is for x86-64. On another machine the kit's emulator runs it here, and bench times its code compiled for that machine.
 
 PREFIX = /usr/local
 DESTDIR =
-VERSION = 0.1.0
+VERSION = 0.2.0
 RT = rt
 RUN = .ci/x86-64
 INSTALL = install
+# What the package is installed for. Somebody who packs it on another machine sets MACHINE=x86_64.
+MACHINE = $(shell uname -m)
 
 program = target/bin/allot
-archive = target/staticlib/liballotment.a
-sources := crates.txt $(shell find crates -name must-fail -prune -o -type f -print)
+archive = target/staticlib/libfrundavel.a
+shared = target/lib/libfrundavel.so.$(VERSION)
+# what a build can depend on: not the wrong programs, definitions and contracts that the gate tries
+sources := crates.txt $(shell find crates \( -name must-fail -o -name wrong -o -name weakened \) -prune -o -type f -print)
 
 bindir = $(PREFIX)/bin
 includedir = $(PREFIX)/include
 libdir = $(PREFIX)/lib
 pkgconfigdir = $(libdir)/pkgconfig
-man1dir = $(PREFIX)/share/man/man1
+mandir = $(PREFIX)/share/man
+# as the pkg-config file has a folder: below its prefix, so that the whole can be moved
+below = $(subst $(PREFIX)/,$${prefix}/,$(1))
 
 COUNT = 1000000
 SEED = 1
 BENCH =
 cargo = CARGO_TARGET_DIR=target/cargo cargo run --release --offline --quiet --manifest-path harness/Cargo.toml
+export RT
 
-.PHONY: sample check compare bench install uninstall
+# what a recipe needs, and what it is: said in words where it is missing
+need = @command -v $(1) >/dev/null 2>&1 || { echo "$(1) is missing: $(2)" >&2; exit 1; }
+need-rt = $(call need,$(RT),it is the command of the Rattle kit$(comma) which proves and compiles all that is built here)
+need-cargo = $(call need,cargo,it is the command of Rust$(comma) which builds the comparison and the benchmark)
+need-cc = $(call need,cc,it is a C compiler$(comma) with which cargo links what it builds (Debian: gcc))
+comma = ,
+
+.PHONY: sample all help check compare bench install uninstall clean
+# rt works on one thing at a time in a folder
+.NOTPARALLEL:
+.DELETE_ON_ERROR:
+.PRECIOUS: target/staticlib/lib%.a
 
 sample: $(program)
-	$(RUN) $(program) < examples/listing.book
+	$(RUN) $(program) examples/listing.book
+
+all: $(program) $(archive) $(shared)
+
+help:
+	@sed -n 's/^# \(make\)/\1/p' Makefile
 
 check:
 	.ci/run
 
 # A machine that cannot link the archive asks the product under the emulator.
 compare: $(archive)
+	$(need-cargo)
+	$(need-cc)
 	if [ "$$(uname -m)" = x86_64 ]; then $(cargo) --bin compare -- $(COUNT) $(SEED) --folder target; \
 	else harness/emulated/make && $(cargo) --bin compare -- $(COUNT) $(SEED) --folder target --through target/emulated/run; fi
 
-# A machine that is not x86-64 times the product's code compiled for it.
 bench: $(archive)
+	$(need-cargo)
+	$(need-cc)
 	if [ "$$(uname -m)" = x86_64 ]; then $(cargo) --bin bench -- $(BENCH); \
 	else harness/native/make && FRUNDAVEL_ARCHIVE=target/native $(cargo) --bin bench -- $(BENCH); fi
 
-$(program): $(sources)
-	$(RT) check allot
+target/staticlib/lib%.a: $(sources) program/archive
+	$(need-rt)
+	program/archive $*
 
-$(archive): $(sources)
-	$(RT) staticlib allotment
+target/bin/%: target/staticlib/lib%.a program/main.c program/link program/kit
+	$(need-rt)
+	program/link $*
 
-install: $(program) $(archive)
-	$(INSTALL) -d "$(DESTDIR)$(bindir)" "$(DESTDIR)$(includedir)" "$(DESTDIR)$(pkgconfigdir)" "$(DESTDIR)$(man1dir)"
+$(shared): $(archive) include/frundavel.h program/share program/kit
+	$(need-rt)
+	program/share $(VERSION)
+
+# Nothing is built here, so that nothing is built as root.
+install:
+	@[ "$(MACHINE)" = x86_64 ] || { echo "make install: Frundavel is for x86-64 Linux, and this machine is $(MACHINE)" >&2; exit 1; }
+	@case "$(PREFIX)" in /*) ;; *) echo "make install: PREFIX must begin with /: $(PREFIX)" >&2; exit 1 ;; esac
+	@$(MAKE) --no-print-directory -q all 2>/dev/null || { echo "make install builds nothing, and what it installs is not there" \
+		"or is older than its sources: run make all first" >&2; exit 1; }
+	$(INSTALL) -d "$(DESTDIR)$(bindir)" "$(DESTDIR)$(includedir)" "$(DESTDIR)$(pkgconfigdir)" "$(DESTDIR)$(mandir)/man1" \
+		"$(DESTDIR)$(mandir)/man3"
 	$(INSTALL) -m 755 $(program) "$(DESTDIR)$(bindir)/allot"
+	$(INSTALL) -m 755 examples/show-book "$(DESTDIR)$(bindir)/show-book"
 	$(INSTALL) -m 644 include/frundavel.h "$(DESTDIR)$(includedir)/frundavel.h"
-	$(INSTALL) -m 644 $(archive) "$(DESTDIR)$(libdir)/liballotment.a"
-	$(INSTALL) -m 644 docs/allot.1 "$(DESTDIR)$(man1dir)/allot.1"
-	printf '%s\n' 'Name: frundavel' 'Description: Forced offsetting allotment' 'Version: $(VERSION)' \
-		'Cflags: -I"$(includedir)"' 'Libs: -L"$(libdir)" -lallotment' > "$(DESTDIR)$(pkgconfigdir)/frundavel.pc"
+	$(INSTALL) -m 644 $(archive) "$(DESTDIR)$(libdir)/libfrundavel.a"
+	$(INSTALL) -m 755 $(shared) "$(DESTDIR)$(libdir)/libfrundavel.so.$(VERSION)"
+	ln -sf libfrundavel.so.$(VERSION) "$(DESTDIR)$(libdir)/libfrundavel.so.0"
+	ln -sf libfrundavel.so.0 "$(DESTDIR)$(libdir)/libfrundavel.so"
+	$(INSTALL) -m 644 docs/allot.1 "$(DESTDIR)$(mandir)/man1/allot.1"
+	$(INSTALL) -m 644 docs/frundavel.3 "$(DESTDIR)$(mandir)/man3/frundavel.3"
+	printf '%s\n' 'prefix=$(PREFIX)' 'includedir=$(call below,$(includedir))' 'libdir=$(call below,$(libdir))' '' 'Name: frundavel' \
+		'Description: Forced offsetting allotment' 'Version: $(VERSION)' 'Cflags: -I"$${includedir}"' \
+		'Libs: -L"$${libdir}" -lfrundavel' > "$(DESTDIR)$(pkgconfigdir)/frundavel.pc"
 	chmod 644 "$(DESTDIR)$(pkgconfigdir)/frundavel.pc"
 
 # The folders stay: others may have files there.
 uninstall:
-	rm -f "$(DESTDIR)$(bindir)/allot" "$(DESTDIR)$(includedir)/frundavel.h" "$(DESTDIR)$(libdir)/liballotment.a"
-	rm -f "$(DESTDIR)$(pkgconfigdir)/frundavel.pc" "$(DESTDIR)$(man1dir)/allot.1"
+	rm -f "$(DESTDIR)$(bindir)/allot" "$(DESTDIR)$(bindir)/show-book" "$(DESTDIR)$(includedir)/frundavel.h"
+	rm -f "$(DESTDIR)$(libdir)/libfrundavel.a" "$(DESTDIR)$(libdir)/libfrundavel.so" "$(DESTDIR)$(libdir)/libfrundavel.so.0" \
+		"$(DESTDIR)$(libdir)/libfrundavel.so.$(VERSION)" "$(DESTDIR)$(pkgconfigdir)/frundavel.pc"
+	rm -f "$(DESTDIR)$(mandir)/man1/allot.1" "$(DESTDIR)$(mandir)/man3/frundavel.3"
+
+clean:
+	rm -rf target

@@ -29,26 +29,6 @@ static int failed(const char *what, const char *why)
     return FAILED;
 }
 
-/* What a refusal number means, in the words of the header's table. */
-static const char *meaning(uint64_t number)
-{
-    static const char *const meanings[] = {
-        "accepted",
-        "the book has more than 60,000 bytes",
-        "fewer than 3 bytes are left where a field must begin, or its value runs past the end",
-        "the tag doesn't belong there, or bytes follow Z",
-        "a comma stands in a figure",
-        "a value is not of its form or range",
-        "the lower edge of tier 1 (U) is not greater than that of tier 2 (V)",
-        "the customer code was given before",
-        "the unfilled close-out lots (Q) exceed the lots held on the locked side",
-        "the customer's opening trades sum to less than its net position",
-        "there are more than 256 customers",
-        "the report is longer than the room lent for it",
-    };
-    return number < sizeof meanings / sizeof meanings[0] ? meanings[number] : "a number that this program does not know";
-}
-
 /* Gives back what a book does not need, so that a checker of memory sees where it ends. An empty one is a null pointer. */
 static void trim(struct bytes *book)
 {
@@ -152,22 +132,31 @@ static int print_report(struct bytes report)
     return whole ? ACCEPTED : failed("report", "not of its form");
 }
 
-static int print_answer(frundavel_answer answer, uint8_t *report)
+/* Prints the words for a refusal. They have no zero byte at their end, and always fit. */
+static void print_reason(frundavel_answer answer, struct bytes book)
+{
+    uint8_t words[FRUNDAVEL_WORDS];
+    frundavel_answer said = frundavel_reason(answer.number, answer.place, book.at, book.size, words, sizeof words);
+
+    printf("refused: %.*s", (int)said.length, (const char *)words);
+    if (answer.number == FRUNDAVEL_NO_ROOM)
+        printf("; it needs %llu bytes", (unsigned long long)answer.place);
+    putchar('\n');
+}
+
+static int print_answer(frundavel_answer answer, struct bytes book, uint8_t *report)
 {
     struct bytes written;
 
     printf("number %llu place %llu length %llu\n", (unsigned long long)answer.number, (unsigned long long)answer.place,
            (unsigned long long)answer.length);
-    if (answer.number == 0) {
-        written.at = report;
-        written.size = (size_t)answer.length;
-        return print_report(written);
+    if (answer.number != FRUNDAVEL_ACCEPTED) {
+        print_reason(answer, book);
+        return REFUSED;
     }
-    printf("refused: %s", meaning(answer.number));
-    if (answer.number == 11)
-        printf("; it needs %llu bytes", (unsigned long long)answer.place);
-    putchar('\n');
-    return REFUSED;
+    written.at = report;
+    written.size = (size_t)answer.length;
+    return print_report(written);
 }
 
 static int allot(struct bytes book, size_t room)
@@ -180,7 +169,7 @@ static int allot(struct bytes book, size_t room)
         if (report == NULL)
             return failed("report", "no memory for it");
     }
-    status = print_answer(frundavel_allot(book.at, book.size, report, room), report);
+    status = print_answer(frundavel_allot(book.at, book.size, report, room), book, report);
     free(report);
     return status;
 }

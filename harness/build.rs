@@ -1,4 +1,4 @@
-//! Links the product's archive, which `rt staticlib allotment` writes. It is for x86-64; elsewhere src/elsewhere.rs stands in for it, unless
+//! Links the product's archive, which `rt staticlib frundavel` writes. It is for x86-64; elsewhere src/elsewhere.rs stands in for it, unless
 //! FRUNDAVEL_ARCHIVE names the folder of another (harness/native).
 
 use std::env;
@@ -10,15 +10,15 @@ fn main() {
     let Some(folder) = folder() else {
         return;
     };
-    let archive = folder.join("liballotment.a");
+    let archive = folder.join("libfrundavel.a");
     println!("cargo:rerun-if-changed={}", archive.display());
     assert!(
         archive.exists(),
-        "no archive to link: run `rt staticlib allotment` first"
+        "no archive to link: run `rt staticlib frundavel` first"
     );
     println!("cargo:rustc-cfg=linked");
     println!("cargo:rustc-link-search=native={}", folder.display());
-    println!("cargo:rustc-link-lib=static=allotment");
+    println!("cargo:rustc-link-lib=static=frundavel");
 }
 
 /// Where the archive stands, if this machine has one.

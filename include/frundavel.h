@@ -1,11 +1,11 @@
 /*
  * frundavel.h - the forced offsetting allotment, for C99 and C++.
  *
- * One call: a book and a lent buffer in; a number, a place and a length out. The rules, with worked examples, are in docs/RULES.md of
- * the source tree. Every byte that the call writes, and every answer that it gives, is proved to be what their definitions there
- * (crates/rules/specs) say; docs/ASSUMPTIONS.md says what that rests on.
+ * frundavel_allot: a book and a lent buffer in; a number, a place and a length out. frundavel_reason: the words for a refusal. The rules,
+ * with worked examples, are in docs/RULES.md of the source tree. Every byte that a call writes, and every answer that it gives, is proved
+ * to be what the definitions (crates/rules/specs) say; docs/ASSUMPTIONS.md says what that rests on.
  *
- * Link with liballotment.a. It is for x86-64 Linux only today.
+ * Link with -lfrundavel: libfrundavel.so or libfrundavel.a. They are for x86-64 Linux only today.
  */
 #ifndef FRUNDAVEL_H
 #define FRUNDAVEL_H
@@ -16,6 +16,12 @@
 #ifdef __cplusplus
 extern "C" {
 #endif
+
+/* The version. CHANGELOG.md of the source tree says what changed with each. */
+#define FRUNDAVEL_VERSION "0.2.0"
+#define FRUNDAVEL_VERSION_MAJOR 0
+#define FRUNDAVEL_VERSION_MINOR 2
+#define FRUNDAVEL_VERSION_PATCH 0
 
 /* A book has at most so many bytes; a longer one is refused with number 1. Reading one byte more than this is enough to see it. */
 #define FRUNDAVEL_LONGEST_BOOK 60000
@@ -34,10 +40,29 @@ extern "C" {
  */
 #define FRUNDAVEL_ROOM (12 + 12 + 256 * (15 + 4 + 10))
 
+/* A room that is enough for the words of every refusal: a call of frundavel_reason with it never answers 11 (proved). */
+#define FRUNDAVEL_WORDS 128
+
+/* The numbers of an answer. The table below says when each is given. */
+enum frundavel_number {
+    FRUNDAVEL_ACCEPTED = 0,
+    FRUNDAVEL_TOO_LONG = 1,
+    FRUNDAVEL_CUT_SHORT = 2,
+    FRUNDAVEL_MISPLACED = 3,
+    FRUNDAVEL_COMMA = 4,
+    FRUNDAVEL_MALFORMED = 5,
+    FRUNDAVEL_EDGES = 6,
+    FRUNDAVEL_GIVEN_BEFORE = 7,
+    FRUNDAVEL_OVERDRAWN = 8,
+    FRUNDAVEL_UNCOVERED = 9,
+    FRUNDAVEL_TOO_MANY = 10,
+    FRUNDAVEL_NO_ROOM = 11
+};
+
 /*
- * The answer.
+ * The answer of a call.
  *
- * number 0: accepted. place is 0, and length is the report's length.
+ * number 0: accepted. place is 0, and length is the length of what was written.
  * Any other number: refused. length is 0, and place says where, as a count of bytes from the front of the book.
  *
  *   number  given exactly when                                              place
@@ -73,6 +98,19 @@ typedef struct frundavel_answer {
  *   at once. It takes at most 14,336 bytes of the calling thread's stack (measured, and held by a test; docs/BENCHMARKS.md).
  */
 frundavel_answer frundavel_allot(const uint8_t *book, size_t size, uint8_t *report, size_t room);
+
+/*
+ * Puts the words for a number at the front of the `room` bytes lent at `words`, with no zero byte after them: `a comma in the loss edge L`.
+ *
+ * - `number` and `place` are those that a call answered, and `book` is the book that it was given: the byte at the place says the field.
+ *   With another book, or a place past its end, the words may be of another field or of none.
+ * - The answer is number 0, place 0 and the length of the words; or 11 with the length needed as place, length 0 and no byte altered,
+ *   where the words are longer than the room. Bytes of the buffer after the words are unaltered.
+ * - Every number has words: 0 is `accepted`, and one that no call answers is `no such number`. They are ASCII, in English, of one line
+ *   without a line feed. Later versions may put other words; a program that has to decide looks at the number.
+ * - Of pointers, threads and what is called the same holds as above. `book` and `words` must not overlap.
+ */
+frundavel_answer frundavel_reason(uint64_t number, uint64_t place, const uint8_t *book, size_t size, uint8_t *words, size_t room);
 
 #ifdef __cplusplus
 }
