@@ -1,7 +1,8 @@
 #!/usr/bin/env python3
-"""Writes the sample books of this folder, each with the listing that document 01 gives it: NAME.book and NAME.txt.
+"""Writes the sample books of this folder, each with the listing that document 01 gives it, NAME.book and NAME.txt, and a refused one with
+the line that the program puts on standard error too, NAME.said.
 
-The listings are written out here by hand, from document 01, and not taken from any program. Run it in this folder.
+The listings and these lines are written out here by hand, from document 01, and not taken from any program. Run it in this folder.
 
 The one exception is typical.txt, too long to write by hand. This script writes its book alone; its listing is what the second program
 printed, and the gate holds both programs to it. In the folder above: target/cargo/release/second < examples/typical.book"""
@@ -117,25 +118,42 @@ NOTHING = "total 0\nleft 0\n"
 BOOKS = {
     "listing": (listing(), "total 9\nleft 1\nW3 3 1\nP2 P 3\nW1 1 3\nP1 P 6\nW2 2 5\n"),
     "empty": (terms() + END, NOTHING),
-    "refused-1-too-long": (sized(60_001), "refused 1 at 0\n"),
-    "refused-2-cut": (terms()[:-1], "refused 2 at 29\n"),
-    "refused-3-tag": (terms() + field("X", ""), "refused 3 at 37\n"),
-    "refused-4-comma": (listing("8,000"), "refused 4 at 13\n"),
-    "refused-5-form": (terms(s="00.01") + END, "refused 5 at 4\n"),
-    "refused-6-edges": (terms(u="4.000") + END, "refused 6 at 29\n"),
-    "refused-7-twice": (terms() + customer("A", "0", "0", "0") * 2 + END, "refused 7 at 53\n"),
-    "refused-8-unfilled": (terms() + customer("A", "5", "0", "6", ("B", "400.00 5")) + END, "refused 8 at 49\n"),
-    "refused-9-trades": (terms() + customer("A", "5", "0", "0", ("B", "400.00 4")) + END, "refused 9 at 37\n"),
-    "refused-10-customers": (terms() + crowd(257) + END, "refused 10 at 4901\n"),
     "customers-256": (terms() + crowd(256) + END, NOTHING + "".join(f"{1000 + i} N 0\n" for i in range(256))),
     "bytes-60000": (sized(60_000), NOTHING + "A N 0\n"),
 }
+# the book, its number and place, and the words for them
+REFUSED = {
+    "1-too-long": (sized(60_001), "1 at 0", "the book has more than 60,000 bytes"),
+    "2-cut": (terms()[:-1], "2 at 29", "the book ends before the tier 2 edge V is whole"),
+    "3-tag": (terms() + field("X", ""), "3 at 37", "no field begins with this byte"),
+    "4-comma": (listing("8,000"), "4 at 13", "a comma in the loss edge L"),
+    "5-form": (terms(s="00.01") + END, "5 at 4", "the settlement price S is not of its form or range"),
+    "6-edges": (terms(u="4.000") + END, "6 at 29", "the tier 1 edge U is not greater than the tier 2 edge V"),
+    "7-twice": (terms() + customer("A", "0", "0", "0") * 2 + END, "7 at 53", "this customer code was given before"),
+    "8-unfilled": (
+        terms() + customer("A", "5", "0", "6", ("B", "400.00 5")) + END,
+        "8 at 49",
+        "the unfilled lots Q exceed the lots held on the locked side",
+    ),
+    "9-trades": (
+        terms() + customer("A", "5", "0", "0", ("B", "400.00 4")) + END,
+        "9 at 37",
+        "this customer's opening trades sum to less than its net position",
+    ),
+    "10-customers": (terms() + crowd(257) + END, "10 at 4901", "more than 256 customers"),
+}
 
-with open("typical.book", "wb") as f:
-    f.write(typical())
 
+def write(name, content):
+    with open(name, "wb") as f:
+        f.write(content if isinstance(content, bytes) else content.encode("ascii"))
+
+
+write("typical.book", typical())
 for name, (book, text) in BOOKS.items():
-    with open(f"{name}.book", "wb") as f:
-        f.write(book)
-    with open(f"{name}.txt", "w", encoding="ascii") as f:
-        f.write(text)
+    write(f"{name}.book", book)
+    write(f"{name}.txt", text)
+for name, (book, place, words) in REFUSED.items():
+    write(f"refused-{name}.book", book)
+    write(f"refused-{name}.txt", f"refused {place}\n")
+    write(f"refused-{name}.said", f"allot: refused {place}: {words}\n")

@@ -1,0 +1,130 @@
+#!/usr/bin/env python3
+"""Lists the allotment of a book, as the program allot does, by a call of libfrundavel.so: how another language calls the product.
+
+It needs Python's standard library alone. `allotment` below is all that a program of one's own takes from here."""
+
+import argparse
+import ctypes
+import os
+import sys
+
+# As in frundavel.h: how long a book may be, and rooms that are always enough for a report and for the words of a refusal.
+LONGEST_BOOK = 60_000
+ROOM = 12 + 12 + 256 * (15 + 4 + 10)
+WORDS = 128
+
+ACCEPTED, REFUSED, FAILED = 0, 1, 2  # exit statuses
+
+
+class Answer(ctypes.Structure):
+    """frundavel_answer"""
+
+    _fields_ = [("number", ctypes.c_uint64), ("place", ctypes.c_uint64), ("length", ctypes.c_uint64)]
+
+
+class Refused(Exception):
+    """A book that is refused: its number, its place, and the words for both."""
+
+    def __init__(self, number, place, words):
+        super().__init__(f"refused {number} at {place}: {words}")
+        self.number, self.place, self.words = number, place, words
+
+
+def load(name):
+    """The library of this file name, or the one of the system's loader; OSError says why it is none."""
+    library = ctypes.CDLL(name)
+    size, lent = ctypes.c_size_t, ctypes.c_void_p
+    try:
+        library.frundavel_allot.argtypes = [ctypes.c_char_p, size, lent, size]
+        library.frundavel_reason.argtypes = [ctypes.c_uint64, ctypes.c_uint64, ctypes.c_char_p, size, lent, size]
+    except AttributeError as error:
+        raise OSError(str(error)) from None
+    library.frundavel_allot.restype = library.frundavel_reason.restype = Answer
+    return library
+
+
+def reason(library, answer, book):
+    """The words for a refusal."""
+    lent = ctypes.create_string_buffer(WORDS)
+    said = library.frundavel_reason(answer.number, answer.place, book, len(book), lent, WORDS)
+    return lent.raw[: said.length].decode("ascii")
+
+
+def fields(report):
+    """Each field of a report as (tag, text): a tag of one byte, a length of two, high byte first, and the value."""
+    at = 0
+    while at < len(report):
+        end = at + 3 + int.from_bytes(report[at + 1 : at + 3], "big")
+        yield chr(report[at]), report[at + 3 : end].decode("ascii")
+        at = end
+
+
+def allotment(library, book):
+    """The total, the residue and for each customer code, standing and offset lots; Refused where the book is refused."""
+    lent = ctypes.create_string_buffer(ROOM)
+    answer = library.frundavel_allot(book, len(book), lent, ROOM)
+    if answer.number != 0:
+        raise Refused(answer.number, answer.place, reason(library, answer, book))
+    (_, total), (_, residue), *rest = fields(lent.raw[: answer.length])
+    values = [text for _, text in rest]
+    customers = [(code, standing, int(lots)) for code, standing, lots in zip(values[0::3], values[1::3], values[2::3])]
+    return int(total), int(residue), customers
+
+
+def read(name):
+    """A book, at most one byte more than it may have: a longer one is then refused for its length."""
+    if name == "-" and sys.stdin is None:
+        raise OSError(0, "it is closed")
+    with open(0 if name == "-" else name, "rb", closefd=name != "-") as file:
+        return file.read(LONGEST_BOOK + 1)
+
+
+def failed(what, error):
+    """Says why something failed, in the words of the system where it has them."""
+    print(f"allot.py: {ascii(what)[1:-1]}: {getattr(error, 'strerror', None) or error}", file=sys.stderr)
+    return FAILED
+
+
+def show(lines):
+    if sys.stdout is None:
+        raise OSError(0, "it is closed")
+    sys.stdout.write("".join(f"{line}\n" for line in lines))
+    sys.stdout.flush()
+
+
+def answered(library, book):
+    """Prints the listing of a book; the reason of a refusal goes to standard error."""
+    try:
+        total, residue, customers = allotment(library, book)
+    except Refused as refused:
+        show([f"refused {refused.number} at {refused.place}"])
+        print(f"allot.py: {refused}", file=sys.stderr)
+        return REFUSED
+    show([f"total {total}", f"left {residue}", *(f"{code} {standing} {lots}" for code, standing, lots in customers)])
+    return ACCEPTED
+
+
+def main():
+    parser = argparse.ArgumentParser(prog="allot.py", description=__doc__.split("\n\n")[0])
+    parser.add_argument("file", nargs="?", default="-", metavar="FILE", help="the book; - or nothing is standard input")
+    parser.add_argument("--library", default="libfrundavel.so.0", metavar="FILE", help="the library; without it, the installed one")
+    words = parser.parse_args()
+    try:
+        library = load(words.library)
+    except OSError as error:
+        return failed("the library", error)
+    try:
+        book = read(words.file)
+    except (OSError, ValueError) as error:
+        return failed("standard input" if words.file == "-" else words.file, error)
+    try:
+        return answered(library, book)
+    except OSError as error:
+        status = failed("standard output", error)
+        # what is left in its buffer goes nowhere at the end
+        os.dup2(os.open(os.devnull, os.O_WRONLY), 1)
+        return status
+
+
+if __name__ == "__main__":
+    sys.exit(main())
