@@ -124,10 +124,10 @@ BOOKS = {
 # the book, its number and place, and the words for them
 REFUSED = {
     "1-too-long": (sized(60_001), "1 at 0", "the book has more than 60,000 bytes"),
-    "2-cut": (terms()[:-1], "2 at 29", "the book ends before the tier 2 edge V is whole"),
-    "3-tag": (terms() + field("X", ""), "3 at 37", "no field begins with this byte"),
+    "2-cut": (terms()[:-1], "2 at 29", "the book ends before the end of the tier 2 edge V"),
+    "3-tag": (terms() + field("X", ""), "3 at 37", "a byte that is no tag"),
     "4-comma": (listing("8,000"), "4 at 13", "a comma in the loss edge L"),
-    "5-form": (terms(s="00.01") + END, "5 at 4", "the settlement price S is not of its form or range"),
+    "5-form": (terms(s="00.01") + END, "5 at 4", "not of its form or range: the settlement price S"),
     "6-edges": (terms(u="4.000") + END, "6 at 29", "the tier 1 edge U is not greater than the tier 2 edge V"),
     "7-twice": (terms() + customer("A", "0", "0", "0") * 2 + END, "7 at 53", "this customer code was given before"),
     "8-unfilled": (

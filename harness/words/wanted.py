@@ -1,24 +1,25 @@
 #!/usr/bin/env python3
-"""What every.c must print: the words of each number at each byte, from the tables of docs/RULES.md, section 16."""
+"""What every.c must print: the words of each number at each byte, as docs/RULES.md, section 16, has them."""
 
 import pathlib
 import re
 
 PAGE = (pathlib.Path(__file__).parents[2] / "docs/RULES.md").read_text()
 SECTION = re.search(r"^## 16\. .*?(?=^## 17\. )", PAGE, re.M | re.S).group(0)
-FIELDS, NUMBERS = [
-    [[cell.strip() for cell in line.strip("|").split("|")] for line in table.strip().split("\n")[2:]]
+NAMES = " ".join(re.search(r"^A field's name: (.*?)\.", SECTION, re.M | re.S).group(1).split()).split(", ")
+FIELD_OF = {ord(name[-1]): name for name in NAMES}
+OF_FIELDS, OTHERS = [
+    {cells[0]: cells[1:] for line in table.strip().split("\n")[2:] for cells in [[c.strip() for c in line.strip("|").split("|")]]}
     for table in re.findall(r"(?:^\|.*\n)+", SECTION, re.M)
 ]
-FIELD_OF = {ord(tag): name for tag, name in FIELDS}
-WORDS_OF = {number: (named, named if unnamed == "the same" else unnamed) for number, named, unnamed in NUMBERS}
-assert len(FIELD_OF) == 12 and list(WORDS_OF) == [*map(str, range(12)), "any other"]
+assert len(FIELD_OF) == 12 and {*OF_FIELDS, *OTHERS} == {*map(str, range(12)), "all others"}
 
 
 def words(number, byte):
-    named, unnamed = WORDS_OF.get(str(number), WORDS_OF["any other"])
-    field = FIELD_OF.get(byte)
-    return named.replace("FIELD", field) if field else unnamed
+    if str(number) not in OF_FIELDS:
+        return OTHERS.get(str(number), OTHERS["all others"])[0]
+    named, unnamed = OF_FIELDS[str(number)]
+    return named.replace("FIELD", FIELD_OF[byte]) if byte in FIELD_OF else unnamed
 
 
 for number in [*range(13), 13, 255, 256, 260, 2**32, 2**32 + 4, 2**63, 2**64 - 1]:
