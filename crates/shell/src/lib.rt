@@ -131,12 +131,24 @@ fn failed(program: &[u8], what: &[u8]) -> u32
     FAILED
 }
 
+// The word at place i, at the front of a buffer, or as much of it as the buffer holds: no path is longer, and the front of a longer word
+// says whether it is an option.
+fn word_at(i: usize, word: &mut [u8]) -> usize
+    ensures { λ r. ⌜ r ≤ length (now (word .exit)) ⌝ }
+{
+    let n = os::arg(i, word);
+    if os::errno() != 0 {
+        return word.len();
+    }
+    n
+}
+
 // Says what is wrong with the word at place i, and where to read more.
 fn wrong(program: &[u8], i: usize, what: &[u8]) -> u32
     ensures { λ r. ⌜ r ≡ failed ⌝ }
 {
     let mut word = io::buffer();
-    let n = os::arg(i, &mut word);
+    let n = word_at(i, &mut word);
     make_visible(&mut word);
     write_whole(libc::STDERR_FILENO, program);
     write_whole(libc::STDERR_FILENO, b": ");
@@ -195,17 +207,14 @@ fn read_file(program: &[u8], i: usize, buffer: &mut [u8]) -> Input
     read_from(program, fd, &path[..n], buffer)
 }
 
-// The word at place i. Of one that is longer than a path the front says whether it is an option.
+// What is asked for after the word at place i.
 fn take(seen: Seen, i: usize) -> Seen {
     let asked = seen.asked;
     if command::settled(asked) {
         return seen;
     }
     let mut word = io::buffer();
-    let n = os::arg(i, &mut word);
-    if os::errno() != 0 {
-        return command::next(seen, command::word_of(&word), i);
-    }
+    let n = word_at(i, &mut word);
     command::next(seen, command::word_of(&word[..n]), i)
 }
 

@@ -9,11 +9,11 @@ use Rattle.shell.proofs.wrong.Tie as tie
 buffer-requires : tie.Need-buffer-requires
 buffer-requires c κs = search needs
 
-slice-aggregate-arg : tie.Need-slice-aggregate-arg
-slice-aggregate-arg c = search needs
+slice-aggregate-word-at : tie.Need-slice-aggregate-word-at
+slice-aggregate-word-at c = search needs
 
-arg-requires : tie.Need-arg-requires
-arg-requires c κs = search needs
+word-at-requires : tie.Need-word-at-requires
+word-at-requires c κs = search needs
 
 slice-aggregate-make-visible : tie.Need-slice-aggregate-make-visible
 slice-aggregate-make-visible c = search needs
@@ -65,8 +65,8 @@ wrong-spec =
     tie.close
     (tie.spec
     buffer-requires
-    slice-aggregate-arg
-    arg-requires
+    slice-aggregate-word-at
+    word-at-requires
     slice-aggregate-make-visible
     make-visible-requires
     write-whole-requires
