@@ -4,6 +4,7 @@ use Prim.Native.Nat.{ℕ, _+_}
 use Prim.Native.String.{String}
 use mathlib.Core.Path.{_≡_, refl}
 use mathlib.Core.List.{List, [], _∷_, map}
+use lib.ListN.{length}
 use mathlib.Core.Bool.{false, cond}
 use Rattle.rules.specs.Text.{bytes}
 use Rattle.rules.specs.Report.{digits}
@@ -55,7 +56,7 @@ pub of-numbers :
     ∷ "the tier 1 edge U is not greater than the tier 2 edge V"
     ∷ "this customer code was given before"
     ∷ "the unfilled lots Q exceed the lots held on the locked side"
-    ∷ "this customer's opening trades sum to less than its net position"
+    ∷ "this customer's opening trades on its net side sum to less than its net position"
     ∷ "more than 256 customers"
     ∷ "the report is longer than the buffer"
     ∷ "no such number"
@@ -64,6 +65,17 @@ pub of-numbers :
     )
 unfolding lineOf withField reason
 of-numbers = refl
+
+-- no tag stands at the place, and no byte does: an empty book, one without Z, and a line feed behind Z
+pub without-a-field :
+    map (λ (b : List ℕ). reason 2 (fieldAt b (length b))) ([] ∷ bytes "D" ∷ []) ≡
+    map bytes ("the book ends where a field is due" ∷ "the book ends where a field is due" ∷ [])
+unfolding lineOf withField reason
+without-a-field = refl
+
+pub behind-the-end : (reason 3 (fieldAt (bytes "\n") 0) ≡ bytes "a byte that is no tag, or that follows Z") × (reason 9 13 ≡ reason 9 5)
+unfolding lineOf withField reason
+behind-the-end = (refl, refl)
 
 -- what a command line asks for: the words behind the program's name, each with its place
 abbrev asked : ℕ → Seen → List String → Asked

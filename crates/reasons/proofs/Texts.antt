@@ -1,6 +1,6 @@
 -- A text from i on, as a loop that counts by one reads it; and the part of a text that is its first line.
 -- Assumes nothing.
-use Prim.Native.Nat.{ℕ, _+_, _-_, _<_, _≤_, min}
+use Prim.Native.Nat.{ℕ, _+_, _-_, _<_, _≤_}
 use mathlib.Core.Path.{_≡_, refl, ap, _∙_}
 use mathlib.Core.List.{List, [], _∷_}
 use mathlib.Core.Bool.{true, false}
@@ -10,7 +10,7 @@ use lib.ListN.{length, getD, take, drop, length-drop}
 use lib.Seq.{drop-cons}
 use Rattle.rules.specs.Text.{is}
 use Rattle.laws.specs.ByTest.{by-test}
-use Rattle.reasons.specs.Reason.{plain, named, withField, reason}
+use Rattle.reasons.specs.Reason.{plain, named, plainLine, withField, reason}
 use Rattle.reasons.specs.Lines.{firstLine, behindLines, lineOf}
 
 pub drop-step : (v : List ℕ) (i : ℕ) → i < length v → drop i v ≡ getD v i 0 ∷ drop (i + 1) v
@@ -46,6 +46,6 @@ pub with-name : (n f : ℕ) → named n f ≡ true → reason n f ≡ withField 
 unfolding reason
 with-name n f e = simp e
 
-pub without-name : (n f k : ℕ) → named n f ≡ false → k ≡ min n 12 → reason n f ≡ lineOf k plain
+pub without-name : (n f k : ℕ) → named n f ≡ false → k ≡ plainLine n f → reason n f ≡ lineOf k plain
 unfolding reason
 without-name n f k e h = simp (e, h)

@@ -3,7 +3,7 @@
 use Prim.Native.Nat.{ℕ, suc, min}
 use mathlib.Core.Bool.{Bool, false, cond}
 use mathlib.Core.List.{List, [], _∷_, _++_}
-use lib.ListN.{getD}
+use lib.ListN.{length, getD}
 use lib.Dec.{eqb, ltb, leb}
 use Rattle.rules.specs.Text.{bytes}
 use Rattle.rules.specs.Report.{digits}
@@ -18,9 +18,9 @@ abbrev pub placeIn : ℕ → List ℕ → ℕ
 placeIn t [] = 0
 placeIn t (x ∷ xs) = cond (eqb x t) 0 (suc (placeIn t xs))
 
--- the field that begins at a place of the book, as a place among the names; 12 where there is none. No tag is 0.
+-- the field that begins at a place of the book, as a place among the names; 12 where a byte is no tag, and 13 where the book has ended
 abbrev pub fieldAt : List ℕ → ℕ → ℕ
-fieldAt book place = placeIn (getD book place 0) tags
+fieldAt book place = cond (ltb place (length book)) (placeIn (getD book place 0) tags) 13
 
 abbrev pub names : List ℕ
 names =
@@ -47,22 +47,23 @@ leads =
     bytes "a comma in \n" ++
     bytes "not of its form or range: \n"
 
--- the words of each number from 0 on where no field is named; the last line is for a number that is none
+-- the words of each number from 0 on where no field is named; then those for a number that is none, and for 2 where the book has ended
 abbrev pub plain : List ℕ
 plain =
     bytes "accepted\n" ++
     bytes "the book has more than 60,000 bytes\n" ++
     bytes "the book ends before the end of a field\n" ++
-    bytes "a byte that is no tag\n" ++
+    bytes "a byte that is no tag, or that follows Z\n" ++
     bytes "a comma in a figure\n" ++
     bytes "a value that is not of its form or range\n" ++
     bytes "the tier 1 edge U is not greater than the tier 2 edge V\n" ++
     bytes "this customer code was given before\n" ++
     bytes "the unfilled lots Q exceed the lots held on the locked side\n" ++
-    bytes "this customer's opening trades sum to less than its net position\n" ++
+    bytes "this customer's opening trades on its net side sum to less than its net position\n" ++
     bytes "more than 256 customers\n" ++
     bytes "the report is longer than the buffer\n" ++
-    bytes "no such number\n"
+    bytes "no such number\n" ++
+    bytes "the book ends where a field is due\n"
 
 -- 2, 3, 4 and 5 name the field, where there is one
 abbrev pub named : ℕ → ℕ → Bool
@@ -71,8 +72,11 @@ named n f = cond (ltb f 12) (cond (leb 2 n) (leb n 5) false) false
 unfoldable pub withField : ℕ → ℕ → List ℕ
 withField n f = lineOf n leads ++ lineOf f names
 
+abbrev pub plainLine : ℕ → ℕ → ℕ
+plainLine n f = cond (eqb f 13) (cond (eqb n 2) 13 (min n 12)) (min n 12)
+
 unfoldable pub reason : ℕ → ℕ → List ℕ
-reason n f = cond (named n f) (withField n f) (lineOf (min n 12) plain)
+reason n f = cond (named n f) (withField n f) (lineOf (plainLine n f) plain)
 
 -- the line of a program on standard error: `allot: refused 4 at 13: a comma in the loss edge L`
 abbrev pub why : ℕ → ℕ → List ℕ

@@ -1,6 +1,6 @@
 -- How long words are: a line is at most as long as the widest of its text, so that the words of every refusal fit 128 bytes.
 -- Assumes nothing.
-use Prim.Native.Nat.{ℕ, suc, _+_, _≤_, min}
+use Prim.Native.Nat.{ℕ, suc, _+_, _≤_}
 use mathlib.Core.Path.{_≡_}
 use mathlib.Core.List.{List, [], _∷_}
 use native.Mathlib.Omega.{arith}
@@ -10,7 +10,7 @@ use Rattle.rules.specs.Text.{is}
 use Rattle.rules.specs.Report.{digits}
 use Rattle.laws.specs.ByTest.{by-test}
 use Rattle.reasons.specs.Lines.{leftBehind, behindLines, firstLine, lineOf, widestFrom}
-use Rattle.reasons.specs.Reason.{leads, names, plain, named, withField, reason, why, said}
+use Rattle.reasons.specs.Reason.{leads, names, plain, named, plainLine, withField, reason, why, said}
 
 -- a line that has n bytes already
 longer : (n : ℕ) (s : List ℕ) → n + length (firstLine s) ≤ widestFrom n s
@@ -47,7 +47,7 @@ unfolding reason
 reason-short n f =
     by-test (named n f)
     (λ e. simp e (omega (arith, with-length n f, line-short n leads, line-short f names)))
-    (λ e. simp e (omega (arith, line-short (min n 12) plain)))
+    (λ e. simp e (omega (arith, line-short (plainLine n f) plain)))
 
 pub why-length : (n f : ℕ) → length (why n f) ≡ 3 + length (reason n f)
 why-length n f = simp length-append (omega arith)

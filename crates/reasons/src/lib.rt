@@ -10,16 +10,21 @@ ghost use Prim.Native.Nat.{_+_, _≤_, _<_};
 ghost use lib.ListN.{length, drop};
 ghost use Rattle.writing.specs.Written.{Room, Wrote};
 ghost use Rattle.reasons.specs.Lines.{leftBehind, behindLines, firstLine, lineOf};
-ghost use Rattle.reasons.specs.Reason.{placeIn, fieldAt, named, withField, reason, why, said};
+ghost use Rattle.reasons.specs.Reason.{placeIn, fieldAt, named, plainLine, withField, reason, why, said};
 
 // A buffer that the words of every refusal fit.
 pub const WORDS_ROOM: usize = 128;
 
-// The number of tags that a book has, and the place of a field that is none of them.
-const NO_FIELD: usize = 12;
+// The number of tags that a book has, and the place of a byte that is none of them.
+const NO_TAG: usize = 12;
 
-// The line after those of all numbers.
+// The place of a field that begins behind the book.
+const BEHIND: usize = 13;
+
+// The line after those of all numbers, and the one after it, for a book that has ended where a field is due.
 const NO_NUMBER: u64 = 12;
+
+const ENDED: usize = 13;
 
 // How many lines are still to be passed, behind this byte.
 fn lines_left(left: usize, byte: u8) -> usize
@@ -90,13 +95,13 @@ pub fn field_at(book: &[u8], place: u64) -> usize
     if place < book.len() as u64 {
         return place_in(book[place as usize], b"DSLUVCKHQBAZ");
     }
-    NO_FIELD
+    BEHIND
 }
 
 fn names_field(number: u64, field: usize) -> bool
     ensures { λ r. ⌜ r ≡ named number field ⌝ }
 {
-    if field < NO_FIELD {
+    if field < NO_TAG {
         if refusal::CUT_SHORT <= number {
             return number <= refusal::MALFORMED;
         }
@@ -123,6 +128,20 @@ fn put_named(out: &mut [u8], at: usize, number: usize, field: usize) -> usize
     )
 }
 
+// The line of the words that name no field.
+fn plain_line(number: u64, field: usize) -> usize
+    ensures { λ r. ⌜ r ≡ plainLine number field ⌝ }
+{
+    let line = lesser(number, NO_NUMBER) as usize;
+    if field != BEHIND {
+        return line;
+    }
+    if number == refusal::CUT_SHORT {
+        return ENDED;
+    }
+    line
+}
+
 // The words for a number and a field.
 pub fn put_reason(out: &mut [u8], at: usize, number: u64, field: usize) -> usize
     requires { ⌜ Room at (reason number field) (now out) ⌝ }
@@ -134,8 +153,8 @@ pub fn put_reason(out: &mut [u8], at: usize, number: u64, field: usize) -> usize
     put_line(
         out,
         at,
-        b"accepted\nthe book has more than 60,000 bytes\nthe book ends before the end of a field\na byte that is no tag\na comma in a figure\na value that is not of its form or range\nthe tier 1 edge U is not greater than the tier 2 edge V\nthis customer code was given before\nthe unfilled lots Q exceed the lots held on the locked side\nthis customer's opening trades sum to less than its net position\nmore than 256 customers\nthe report is longer than the buffer\nno such number\n",
-        lesser(number, NO_NUMBER) as usize,
+        b"accepted\nthe book has more than 60,000 bytes\nthe book ends before the end of a field\na byte that is no tag, or that follows Z\na comma in a figure\na value that is not of its form or range\nthe tier 1 edge U is not greater than the tier 2 edge V\nthis customer code was given before\nthe unfilled lots Q exceed the lots held on the locked side\nthis customer's opening trades on its net side sum to less than its net position\nmore than 256 customers\nthe report is longer than the buffer\nno such number\nthe book ends where a field is due\n",
+        plain_line(number, field),
     )
 }
 

@@ -7,7 +7,7 @@ ghost use mathlib.Core.Logic.{_⊎_};
 ghost use Prim.Native.Nat.{_≤_};
 ghost use lib.ListN.{length};
 ghost use Rattle.laws.specs.Filled.{filled};
-ghost use Rattle.shell.specs.Shell.{failed, Fitting, Came, visible, visibleAt};
+ghost use Rattle.shell.specs.Shell.{failed, Fitting, Taken, Begun, Came, endedBy, visible, visibleAt};
 
 pub const ACCEPTED: u32 = 0;
 
@@ -168,21 +168,29 @@ fn put_out(text: &[u8]) -> bool {
     false
 }
 
+fn ended_by(written: bool, status: u32) -> u32
+    ensures { λ r. ⌜ r ≡ endedBy written status ⌝ }
+{
+    if written { status } else { FAILED }
+}
+
 // A program's last step: its text to standard output, then what it says to standard error. Where the output fails, that is said in its
 // place.
 pub fn finish(program: &[u8], text: &[u8], said: &[u8], status: u32) -> u32
     ensures { λ r. ⌜ (r ≡ failed) ⊎ (r ≡ status) ⌝ }
 {
-    if put_out(text) {
+    let written = put_out(text);
+    if written {
         write_whole(libc::STDERR_FILENO, said);
-        return status;
+    } else {
+        failed(program, b"standard output");
     }
-    failed(program, b"standard output")
+    ended_by(written, status)
 }
 
 // Reads an open input. The name is for what is said where that fails.
 fn read_from(program: &[u8], fd: i32, name: &[u8], buffer: &mut [u8]) -> Input
-    ensures { λ r. ⌜ Came r (length (now (buffer .entry))) ⌝ }
+    ensures { λ r. ⌜ Taken r (length (now (buffer .entry))) ⌝ }
 {
     match read_whole(fd, buffer) {
         Got::Read(n) => Input::Bytes(n),
@@ -192,7 +200,7 @@ fn read_from(program: &[u8], fd: i32, name: &[u8], buffer: &mut [u8]) -> Input
 
 // Reads the file that the word at place i names.
 fn read_file(program: &[u8], i: usize, buffer: &mut [u8]) -> Input
-    ensures { λ r. ⌜ Came r (length (now (buffer .entry))) ⌝ }
+    ensures { λ r. ⌜ Taken r (length (now (buffer .entry))) ⌝ }
 {
     let mut path = io::buffer();
     let n = os::arg(i, &mut path);
@@ -230,11 +238,11 @@ fn ask(count: usize) -> Asked {
     seen.asked
 }
 
-// A program's first step: `PROGRAM [FILE]`, standard input where there is no file or it is `-`, `--help` and `--version`.
-pub fn begin(program: &[u8], help: &[u8], version: &[u8], buffer: &mut [u8]) -> Input
-    ensures { λ r. ⌜ Came r (length (now (buffer .entry))) ⌝ }
+// What a program begins with, by what its words ask for.
+fn begin_as(asked: Asked, program: &[u8], help: &[u8], version: &[u8], buffer: &mut [u8]) -> Input
+    ensures { λ r. ⌜ Begun asked r (length (now (buffer .entry))) ⌝ }
 {
-    match ask(os::arg_count()) {
+    match asked {
         Asked::Nothing => read_from(program, libc::STDIN_FILENO, b"standard input", buffer),
         Asked::Input => read_from(program, libc::STDIN_FILENO, b"standard input", buffer),
         Asked::Named(i) => read_file(program, i, buffer),
@@ -243,4 +251,11 @@ pub fn begin(program: &[u8], help: &[u8], version: &[u8], buffer: &mut [u8]) -> 
         Asked::Unknown(i) => Input::Ended(wrong(program, i, b": no such option")),
         Asked::Second(i) => Input::Ended(wrong(program, i, b": a second file")),
     }
+}
+
+// A program's first step: `PROGRAM [FILE]`, standard input where there is no file or it is `-`, `--help` and `--version`.
+pub fn begin(program: &[u8], help: &[u8], version: &[u8], buffer: &mut [u8]) -> Input
+    ensures { λ r. ⌜ Came r (length (now (buffer .entry))) ⌝ }
+{
+    begin_as(ask(os::arg_count()), program, help, version, buffer)
 }

@@ -1,6 +1,7 @@
 -- `allot::frundavel_main` meets its contract: what was read fits the buffer, and every status is 0, 1 or 2.
 -- Assumes nothing.
 use mathlib.Core.Path.{subst}
+use mathlib.Core.Logic.{⊎-elim}
 use native.Mathlib.Omega.{arith}
 use Prim.Native.Nat.{_≤_}
 use lib.ListN.{length-take}
@@ -17,7 +18,7 @@ read : (k : tie.After-n) → k .n .given .0 .0 ≤ 60_001
 read k = subst (λ (x : Input). Came x 60_001) (k .n .given .1) (k .before .before .before .begin .ensures)
 
 early : (k : tie.After-status) → k .status .given .0 .0 ≤ 2
-early k = subst (λ (x : Input). Came x 60_001) (k .status .given .1) (k .before .before .before .begin .ensures)
+early k = ⊎-elim (λ e. omega arith) (λ e. omega arith) (subst (λ (x : Input). Came x 60_001) (k .status .given .1) (k .before .before .before .begin .ensures))
 
 slice-aggregate-begin : tie.Need-slice-aggregate-begin
 slice-aggregate-begin c = search needs

@@ -35,14 +35,14 @@ returns c =
 slice-aggregate-put-line : tie.Need-slice-aggregate-put-line
 slice-aggregate-put-line c = search needs
 
-lesser-requires : tie.Need-lesser-requires
-lesser-requires c κs = search needs
+plain-line-requires : tie.Need-plain-line-requires
+plain-line-requires c κs = search needs
 
 put-line-requires : tie.Need-put-line-requires
 put-line-requires c κs =
     let e = c .before .before .before in
     let s = e .before .before .before in
-    subst (λ (w : List ℕ). Room (s .args .at) w (s .args .out .now)) (without-name (s .args .number) (s .args .field) (c .lesser .result) (plain-so e) (c .lesser .ensures)) (s .pre)
+    subst (λ (w : List ℕ). Room (s .args .at) w (s .args .out .now)) (without-name (s .args .number) (s .args .field) (c .plain-line .result) (plain-so e) (c .plain-line .ensures)) (s .pre)
 
 same-length-2 : tie.Need-same-length-2
 same-length-2 c = search needs
@@ -54,7 +54,7 @@ returns-2 c =
     let e = l .before .before .before in
     let s = e .before .before .before in
     subst (λ (x : List ℕ). Wrote (s .args .at) x (s .args .out .now) (w .put-line .last .0) (w .put-line .result))
-    (sym (without-name (s .args .number) (s .args .field) (l .lesser .result) (plain-so e) (l .lesser .ensures)))
+    (sym (without-name (s .args .number) (s .args .field) (l .plain-line .result) (plain-so e) (l .plain-line .ensures)))
     (w .put-line .ensures)
 
 pub put-reason-spec : {M : Type 1} → statement M
@@ -66,7 +66,7 @@ put-reason-spec =
     same-length
     returns
     slice-aggregate-put-line
-    lesser-requires
+    plain-line-requires
     put-line-requires
     same-length-2
     returns-2)

@@ -1,10 +1,37 @@
--- `shell::begin` meets its contract: what came fits the buffer, or the program ends with one of the statuses.
+-- `shell::begin` meets its contract: what came fits the buffer, or the program ends with one of two statuses, whatever is asked for.
 -- Assumes nothing.
-use native.Mathlib.Omega.{arith}
-use mathlib.Core.Logic.{⊎-elim}
+use Prim.Native.Nat.{ℕ}
+use mathlib.Core.Path.{_≡_, refl, sym, subst}
+use mathlib.Core.Logic.{inl}
+use Rattle.command.specs.declared.Asked.{Asked}
+use Rattle.command.specs.declared.Asked.the-variants.{Nothing, Named, Usage, Number, Unknown, Second}
+use Rattle.command.specs.declared.Asked.the-variants.{Input as StandardInput}
+use Rattle.shell.specs.declared.Input.{Input}
+use Rattle.shell.specs.declared.Input.the-variants.{Bytes, Ended}
+use Rattle.shell.specs.Shell.{failed, Taken, Printed, Begun, Came}
 use borrow.Author.Needs.{needs}
 use Rattle.shell.proofs.begin.Statement.{statement}
 use Rattle.shell.proofs.begin.Tie as tie
+
+taken : (r : Input) (room : ℕ) → Taken r room → Came r room
+taken (Bytes n) room h = h
+taken (Ended status) room h = inl h
+
+printed : (r : Input) (room : ℕ) → Printed r → Came r room
+printed (Bytes n) room h = absurd h
+printed (Ended status) room h = h
+
+ended : (r : Input) (room : ℕ) → r ≡ Ended failed → Came r room
+ended r room e = subst (λ (x : Input). Came x room) (sym e) (inl refl)
+
+came : (asked : Asked) (r : Input) (room : ℕ) → Begun asked r room → Came r room
+came Nothing r room h = taken r room h
+came StandardInput r room h = taken r room h
+came (Named i) r room h = taken r room h
+came Usage r room h = printed r room h
+came Number r room h = printed r room h
+came (Unknown i) r room h = ended r room h
+came (Second i) r room h = ended r room h
 
 arg-count-requires : tie.Need-arg-count-requires
 arg-count-requires c κs = search needs
@@ -12,129 +39,17 @@ arg-count-requires c κs = search needs
 ask-requires : tie.Need-ask-requires
 ask-requires c κs = search needs
 
-enum-told : tie.Need-enum-told
-enum-told c = search needs
-
-slice-aggregate-read-from : tie.Need-slice-aggregate-read-from
-slice-aggregate-read-from c = search needs
-
-read-from-requires : tie.Need-read-from-requires
-read-from-requires c κs = search needs
-
-enum-told-2 : tie.Need-enum-told-2
-enum-told-2 c = search needs
-
-slice-aggregate-read-from-2 : tie.Need-slice-aggregate-read-from-2
-slice-aggregate-read-from-2 c = search needs
-
-read-from-requires-2 : tie.Need-read-from-requires-2
-read-from-requires-2 c κs = search needs
-
-enum-known-i : tie.Need-enum-known-i
-enum-known-i c = search needs
-
-read-file-requires : tie.Need-read-file-requires
-read-file-requires c κs = search needs
-
-enum-told-3 : tie.Need-enum-told-3
-enum-told-3 c = search needs
-
-slice-aggregate-finish : tie.Need-slice-aggregate-finish
-slice-aggregate-finish c = search needs
-
-finish-requires : tie.Need-finish-requires
-finish-requires c κs = search needs
-
-enum-told-4 : tie.Need-enum-told-4
-enum-told-4 c = search needs
-
-slice-aggregate-finish-2 : tie.Need-slice-aggregate-finish-2
-slice-aggregate-finish-2 c = search needs
-
-finish-requires-2 : tie.Need-finish-requires-2
-finish-requires-2 c κs = search needs
-
-enum-known-i-2 : tie.Need-enum-known-i-2
-enum-known-i-2 c = search needs
-
-slice-aggregate-wrong : tie.Need-slice-aggregate-wrong
-slice-aggregate-wrong c = search needs
-
-wrong-requires : tie.Need-wrong-requires
-wrong-requires c κs = search needs
-
-enum-known-i-3 : tie.Need-enum-known-i-3
-enum-known-i-3 c = search needs
-
-slice-aggregate-wrong-2 : tie.Need-slice-aggregate-wrong-2
-slice-aggregate-wrong-2 c = search needs
-
-wrong-requires-2 : tie.Need-wrong-requires-2
-wrong-requires-2 c κs = search needs
+begin-as-requires : tie.Need-begin-as-requires
+begin-as-requires c κs = search needs
 
 same-length : tie.Need-same-length
 same-length c = search needs
 
 returns : tie.Need-returns
-returns c = search needs
-
-same-length-2 : tie.Need-same-length-2
-same-length-2 c = search needs
-
-returns-2 : tie.Need-returns-2
-returns-2 c = search needs
-
-same-length-3 : tie.Need-same-length-3
-same-length-3 c = search needs
-
-returns-3 : tie.Need-returns-3
-returns-3 c = search needs
-
-returns-4 : tie.Need-returns-4
-returns-4 c = ⊎-elim (λ e. omega arith) (λ e. omega arith) (c .finish .ensures)
-
-returns-5 : tie.Need-returns-5
-returns-5 c = ⊎-elim (λ e. omega arith) (λ e. omega arith) (c .finish2 .ensures)
-
-returns-6 : tie.Need-returns-6
-returns-6 c = search needs
-
-returns-7 : tie.Need-returns-7
-returns-7 c = search needs
+returns c =
+    let w = c .before .before in
+    came (w .before .before .ask .result) (w .begin-as .result) _ (w .begin-as .ensures)
 
 pub begin-spec : {M : Type 1} → statement M
 begin-spec =
-    tie.close
-    (tie.spec
-    arg-count-requires
-    ask-requires
-    enum-told
-    slice-aggregate-read-from
-    read-from-requires
-    enum-told-2
-    slice-aggregate-read-from-2
-    read-from-requires-2
-    enum-known-i
-    read-file-requires
-    enum-told-3
-    slice-aggregate-finish
-    finish-requires
-    enum-told-4
-    slice-aggregate-finish-2
-    finish-requires-2
-    enum-known-i-2
-    slice-aggregate-wrong
-    wrong-requires
-    enum-known-i-3
-    slice-aggregate-wrong-2
-    wrong-requires-2
-    same-length
-    returns
-    same-length-2
-    returns-2
-    same-length-3
-    returns-3
-    returns-4
-    returns-5
-    returns-6
-    returns-7)
+    tie.close (tie.spec arg-count-requires ask-requires begin-as-requires same-length returns)
