@@ -33,7 +33,7 @@ same-length-2 : tie.Need-same-length-2
 same-length-2 c = search needs
 
 returns-2 : tie.Need-returns-2
-returns-2 c = search needs
+returns-2 c = c .failed .ensures
 
 pub read-from-spec : {M : Type 1} → statement M
 read-from-spec =
