@@ -79,9 +79,24 @@ def read(name):
         return file.read(LONGEST_BOOK + 1)
 
 
+def say(line):
+    """Says a line on standard error. Where that is closed, or does not take it, the exit status has to do."""
+    if sys.stderr is None:
+        return
+    try:
+        print(f"allot.py: {line}", file=sys.stderr, flush=True)
+    except OSError:
+        drop(2)
+
+
+def drop(output):
+    """What is left in the buffer of an output that failed goes nowhere at the end."""
+    os.dup2(os.open(os.devnull, os.O_WRONLY), output)
+
+
 def failed(what, error):
     """Says why something failed, in the words of the system where it has them."""
-    print(f"allot.py: {ascii(what)[1:-1]}: {getattr(error, 'strerror', None) or error}", file=sys.stderr)
+    say(f"{ascii(what)[1:-1]}: {getattr(error, 'strerror', None) or error}")
     return FAILED
 
 
@@ -98,32 +113,50 @@ def answered(library, book):
         total, residue, customers = allotment(library, book)
     except Refused as refused:
         show([f"refused {refused.number} at {refused.place}"])
-        print(f"allot.py: {refused}", file=sys.stderr)
+        say(refused)
         return REFUSED
     show([f"total {total}", f"left {residue}", *(f"{code} {standing} {lots}" for code, standing, lots in customers)])
     return ACCEPTED
 
 
-def main():
-    parser = argparse.ArgumentParser(prog="allot.py", description=__doc__.split("\n\n")[0])
+class Words(argparse.ArgumentParser):
+    """The words of the command line."""
+
+    def error(self, message):
+        say(f"{message}\n{self.format_usage()}".rstrip())
+        sys.exit(FAILED)
+
+
+def words():
+    parser = Words(prog="allot.py", description=__doc__.split("\n\n")[0], add_help=False)
     parser.add_argument("file", nargs="?", default="-", metavar="FILE", help="the book; - or nothing is standard input")
     parser.add_argument("--library", default="libfrundavel.so.0", metavar="FILE", help="the library; without it, the installed one")
-    words = parser.parse_args()
+    parser.add_argument("-h", "--help", action="store_true", help="print this text, and end")
+    return parser, parser.parse_args()
+
+
+def run(parser, asked):
+    """Does what the words ask for. What goes wrong with standard output is the caller's."""
+    if asked.help:
+        show(parser.format_help().splitlines())
+        return ACCEPTED
     try:
-        library = load(words.library)
+        library = load(asked.library)
     except OSError as error:
         return failed("the library", error)
     try:
-        book = read(words.file)
+        book = read(asked.file)
     except (OSError, ValueError) as error:
-        return failed("standard input" if words.file == "-" else words.file, error)
+        return failed("standard input" if asked.file == "-" else asked.file, error)
+    return answered(library, book)
+
+
+def main():
     try:
-        return answered(library, book)
+        return run(*words())
     except OSError as error:
-        status = failed("standard output", error)
-        # what is left in its buffer goes nowhere at the end
-        os.dup2(os.open(os.devnull, os.O_WRONLY), 1)
-        return status
+        drop(1)
+        return failed("standard output", error)
 
 
 if __name__ == "__main__":
