@@ -47,11 +47,20 @@ need-cargo = $(call need,cargo,it is the command of Rust$(comma) which builds th
 need-cc = $(call need,cc,it is a C compiler$(comma) with which cargo links what it builds (Debian: gcc))
 comma = ,
 
+# Folders that make, the shell or pkg-config would read as something else are refused, before a line of a recipe holds one.
+odd = ' " ` \ \# $$
+folders = PREFIX DESTDIR bindir includedir libdir pkgconfigdir mandir
+has-odd = $(strip $(foreach mark,$(odd),$(findstring $(mark),$(1))))
+odd-folder = $(firstword $(or $(strip $(foreach folder,PREFIX DESTDIR,$(if $(call has-odd,$(value $(folder))),$(folder)))), \
+	$(foreach folder,$(folders),$(if $(call has-odd,$($(folder))),$(folder)))))
+plain-folders = $(if $(odd-folder),$(error make $@: $(odd-folder) has one of these in it: $(odd)))
+
 .PHONY: sample all help check compare bench install uninstall clean
 # rt works on one thing at a time in a folder
 .NOTPARALLEL:
 .DELETE_ON_ERROR:
-.PRECIOUS: target/staticlib/lib%.a
+# kept, as .PRECIOUS would keep it, but taken away where it is half written
+.SECONDARY: target/staticlib/liballot.a
 
 sample: $(program)
 	$(RUN) $(program) examples/listing.book
@@ -91,6 +100,7 @@ $(shared): $(archive) include/frundavel.h program/share program/kit
 
 # Nothing is built here, so that nothing is built as root.
 install:
+	$(plain-folders)
 	@[ "$(MACHINE)" = x86_64 ] || { echo "make install: Frundavel is for x86-64 Linux, and this machine is $(MACHINE)" >&2; exit 1; }
 	@case "$(PREFIX)" in /*) ;; *) echo "make install: PREFIX must begin with /: $(PREFIX)" >&2; exit 1 ;; esac
 	@$(MAKE) --no-print-directory -q all 2>/dev/null || { echo "make install builds nothing, and what it installs is not there" \
@@ -113,6 +123,7 @@ install:
 
 # The folders stay: others may have files there.
 uninstall:
+	$(plain-folders)
 	rm -f "$(DESTDIR)$(bindir)/allot" "$(DESTDIR)$(bindir)/show-book" "$(DESTDIR)$(includedir)/frundavel.h"
 	rm -f "$(DESTDIR)$(libdir)/libfrundavel.a" "$(DESTDIR)$(libdir)/libfrundavel.so" "$(DESTDIR)$(libdir)/libfrundavel.so.0" \
 		"$(DESTDIR)$(libdir)/libfrundavel.so.$(VERSION)" "$(DESTDIR)$(pkgconfigdir)/frundavel.pc"
