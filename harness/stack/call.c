@@ -1,5 +1,6 @@
-/* The stack that the product's call uses, through its C symbol. A book comes on standard input; the stack below the caller's frame is
-   painted, the call made, and the deepest byte that lost its paint looked for. Printed: that many bytes, and the answer's number.
+/* The stack that the product's calls use, through their C symbols. A book comes on standard input; the stack below the caller's frame is
+   painted, the call made, and the deepest byte that lost its paint looked for. Printed: that many bytes for frundavel_allot, as many for
+   frundavel_reason of its answer, and the answer's number.
 
    It needs no C library: it is linked with the archive alone, so that it can be run under an emulator too. */
 
@@ -8,6 +9,7 @@ typedef unsigned long size;
 
 struct answer { size number, place, length; };
 struct answer frundavel_allot(const byte *book, size count, byte *report, size room);
+struct answer frundavel_reason(size number, size place, const byte *book, size count, byte *words, size room);
 
 enum { READ = 0, WRITE = 1, EXIT = 60 };
 enum { MOST_BOOK = 1 << 20, ROOM = 1 << 16, DEPTH = 1 << 18, GAP = 256, PAINT = 0xa5 };
@@ -101,12 +103,16 @@ void measure(void)
     paint(&frame);
     const struct answer answer = frundavel_allot(book, count, report, ROOM);
     used = deepest(&frame);
+    paint(&frame);
+    const struct answer said = frundavel_reason(answer.number, answer.place, book, count, report, ROOM);
     count = put(line, used);
+    line[count++] = ' ';
+    count += put(line + count, deepest(&frame));
     line[count++] = ' ';
     count += put(line + count, answer.number);
     line[count++] = '\n';
     call(WRITE, 1, line, count);
-    call(EXIT, got < 0, 0, 0);
+    call(EXIT, got < 0 || said.number != 0, 0, 0);
 }
 
 __asm__(".globl _start\n_start: xor %ebp, %ebp\n and $-16, %rsp\n call measure\n hlt\n");
