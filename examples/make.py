@@ -2,7 +2,8 @@
 """Writes the sample books of this folder, each with the listing that document 01 gives it, NAME.book and NAME.txt, and a refused one with
 the line that the program puts on standard error too, NAME.said.
 
-The listings and these lines are written out here by hand, from document 01, and not taken from any program. Run it in this folder.
+The listings are written out here by hand, from document 01, and the lines from section 16 of docs/RULES.md; none is taken from a program.
+Run it in this folder.
 
 The one exception is typical.txt, too long to write by hand. This script writes its book alone; its listing is what the second program
 printed, and the gate holds both programs to it. In the folder above: target/cargo/release/second < examples/typical.book"""

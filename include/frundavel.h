@@ -5,7 +5,8 @@
  * with worked examples, are in docs/RULES.md of the source tree. Every byte that a call writes, and every answer that it gives, is proved
  * to be what the definitions (crates/rules/specs) say; docs/ASSUMPTIONS.md says what that rests on.
  *
- * Link with -lfrundavel: libfrundavel.so or libfrundavel.a. They are for x86-64 Linux only today.
+ * Link with -lfrundavel: libfrundavel.so or libfrundavel.a. They are for x86-64 Linux only today. libfrundavel.so needs the GNU C library,
+ * 2.14 or newer.
  */
 #ifndef FRUNDAVEL_H
 #define FRUNDAVEL_H
@@ -108,7 +109,8 @@ frundavel_answer frundavel_allot(const uint8_t *book, size_t size, uint8_t *repo
  *   where the words are longer than the room. Bytes of the buffer after the words are unaltered.
  * - Every number has words: 0 is `accepted`, and one that no call answers is `no such number`. They are ASCII, in English, of one line
  *   without a line feed. Later versions may put other words; a program that has to decide looks at the number.
- * - Of pointers, threads and what is called the same holds as above. `book` and `words` must not overlap.
+ * - Of pointers, threads and what is called the same holds as above. `book` and `words` must not overlap. It takes at most 1,536 bytes of
+ *   the calling thread's stack (measured, and held by a test).
  */
 frundavel_answer frundavel_reason(uint64_t number, uint64_t place, const uint8_t *book, size_t size, uint8_t *words, size_t room);
 
