@@ -126,7 +126,7 @@ BOOKS = {
 REFUSED = {
     "1-too-long": (sized(60_001), "1 at 0", "the book has more than 60,000 bytes"),
     "2-cut": (terms()[:-1], "2 at 29", "the book ends before the end of the tier 2 edge V"),
-    "3-tag": (terms() + field("X", ""), "3 at 37", "a byte that is no tag"),
+    "3-tag": (terms() + field("X", ""), "3 at 37", "a byte that is no tag, or that follows Z"),
     "4-comma": (listing("8,000"), "4 at 13", "a comma in the loss edge L"),
     "5-form": (terms(s="00.01") + END, "5 at 4", "not of its form or range: the settlement price S"),
     "6-edges": (terms(u="4.000") + END, "6 at 29", "the tier 1 edge U is not greater than the tier 2 edge V"),
@@ -139,7 +139,7 @@ REFUSED = {
     "9-trades": (
         terms() + customer("A", "5", "0", "0", ("B", "400.00 4")) + END,
         "9 at 37",
-        "this customer's opening trades sum to less than its net position",
+        "this customer's opening trades on its net side sum to less than its net position",
     ),
     "10-customers": (terms() + crowd(257) + END, "10 at 4901", "more than 256 customers"),
 }

@@ -6,7 +6,9 @@ import re
 
 PAGE = (pathlib.Path(__file__).parents[2] / "docs/RULES.md").read_text()
 SECTION = re.search(r"^## 16\. .*?(?=^## 17\. )", PAGE, re.M | re.S).group(0)
-NAMES = " ".join(re.search(r"^A field's name: (.*?)\.", SECTION, re.M | re.S).group(1).split()).split(", ")
+TEXT = " ".join(SECTION.split())
+NAMES = re.search(r" A field's name: (.*?)\. ", TEXT).group(1).split(", ")
+ENDED = re.search(r" Where the place is the end of the book, number 2 says: (.*?)\. ", TEXT).group(1)
 FIELD_OF = {ord(name[-1]): name for name in NAMES}
 OF_FIELDS, OTHERS = [
     {cells[0]: cells[1:] for line in table.strip().split("\n")[2:] for cells in [[c.strip() for c in line.strip("|").split("|")]]}
@@ -16,6 +18,9 @@ assert len(FIELD_OF) == 12 and {*OF_FIELDS, *OTHERS} == {*map(str, range(12)), "
 
 
 def words(number, byte):
+    """The words where this byte stands at the place, and none where the book has ended."""
+    if number == 2 and byte is None:
+        return ENDED
     if str(number) not in OF_FIELDS:
         return OTHERS.get(str(number), OTHERS["all others"])[0]
     named, unnamed = OF_FIELDS[str(number)]
