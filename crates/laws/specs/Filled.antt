@@ -1,12 +1,12 @@
 -- A table laid over the front of an array: what a loop that stores one place a turn makes of the array, which behind is as it was.
 -- Assumes nothing.
 use Prim.Native.Nat.{ℕ, suc, _+_, _≤_, _<_}
-use mathlib.Core.Path.{_≡_, _∙_, ap, sym}
+use mathlib.Core.Path.{_≡_, refl, _∙_, ap, sym}
 use mathlib.Core.List.{List, _++_, map, append-assoc}
 use native.Mathlib.Numerals.{add-one}
 use native.Mathlib.Nat.{add-zero}
 use native.Mathlib.Omega.{arith}
-use lib.ListN.{length, getD, set, drop, take-append-drop, length-append, length-drop, List·getD-append}
+use lib.ListN.{length, getD, set, drop, take-append-drop, length-append, length-drop, length-set, List·getD-append}
 use lib.Seq.{set-at, drop-at, drop-cons, getD-append-add, getD-drop}
 use Rattle.laws.specs.Sums.{upTo, take-upTo}
 use Rattle.laws.specs.Indices.{map-more, map-below, length-map-upTo, getD-map-upTo}
@@ -39,3 +39,19 @@ module _ {A : Type 0} where
 
   pub length-filled : (f : ℕ → A) (n : ℕ) (l : List A) → n ≤ length l → length (filled f n l) ≡ length l
   length-filled f n l h = omega (arith, length-append (map f (upTo n)) (drop n l), length-map-upTo f n, length-drop n l)
+
+-- what a loop that stores one place a turn holds of an array after i turns
+pub record Done {A : Type 0} (f : ℕ → A) (i : ℕ) (entry run : List A) : Type 0 where
+  pub size : length run ≡ length entry
+  pub whole : run ≡ filled f i entry
+
+module _ {A : Type 0} {f : ℕ → A} where
+  pub done-none : (entry : List A) → Done f 0 entry entry
+  done-none entry = record { size = refl; whole = refl }
+
+  pub done-more : {i : ℕ} {x : A} {entry run : List A} → Done f i entry run → i < length entry → x ≡ f i → Done f (i + 1) entry (set run i x)
+  done-more {i} {x} {entry} {run} d h e =
+      record { size = simp length-set (d .size); whole = rw (d .whole, e) (filled-more f i entry x h) }
+
+  pub done-all : {i n : ℕ} {entry run : List A} → Done f i entry run → i ≡ n → run ≡ filled f n entry
+  done-all {entry = entry} d e = d .whole ∙ ap (λ m. filled f m entry) e
