@@ -33,5 +33,8 @@ module _ {weights keys offset after : List ℕ} {count x sum : ℕ} (l : Lent we
         fits = λ i h. omega (arith, lots-at i h, share-le i, o .fits i h);
       }
 
+  pub dealt-at : (i : ℕ) → i < count → addedAt offset after i ≡ dealtAt keys weights count x offset i
+  dealt-at i h = ap (λ n. at offset i + n) (lots-at i h)
+
   pub dealt : {end : List ℕ} → end ≡ filled (addedAt offset after) count offset → end ≡ filled (dealtAt keys weights count x offset) count offset
-  dealt e = e ∙ ap (λ p. p ++ drop count offset) (map-below _ _ count (λ i h. ap (λ n. at offset i + n) (lots-at i h)))
+  dealt e = e ∙ ap (λ p. p ++ drop count offset) (map-below _ _ count dealt-at)

@@ -2,3 +2,7 @@
 mod Weights
 mod Dealt
 mod Tier
+mod Tiers
+mod Reading
+mod InRows
+mod Turned

@@ -2,3 +2,4 @@
 pub mod Columns
 pub mod State
 pub mod After
+pub mod Rows

@@ -1,4 +1,6 @@
 // The cascade: a state by value, with a method for one tier that hands the state back. The customers' columns are lent.
+pub mod rows;
+
 use rules::MOST_CUSTOMERS;
 use rules::lesser;
 ghost use mathlib.Core.Path.{_≡_};
@@ -147,5 +149,26 @@ impl Cascade {
             state = state.tier(keys, standings, stakes, count, k);
         }
         state
+    }
+}
+
+// The three tiers, in rows or in columns: what they give is the same.
+pub fn run(
+    start: Cascade,
+    keys: &[u64],
+    standings: &[u8],
+    stakes: &[u32],
+    count: usize,
+    owed: u64,
+    in_rows: bool,
+) -> Cascade
+    requires { ⌜ Steady 0 (columns (now keys) (now standings) (now stakes) count) start ⌝ }
+    requires { ⌜ owed ≡ sumOf pendingOf (linesOf (columns (now keys) (now standings) (now stakes) count) (start .offset)) ⌝ }
+    ensures { λ r. ⌜ r ≡ afterAll (columns (now (keys .entry)) (now (standings .entry)) (now (stakes .entry)) count) start ⌝ }
+{
+    if in_rows {
+        rows::run(start, keys, standings, stakes, count)
+    } else {
+        start.run(keys, standings, stakes, count, owed)
     }
 }

@@ -1,27 +1,15 @@
 -- The three tiers, one after the other: after k turns the state is that after tiers 1 to k, which the next tier takes.
 -- Assumes nothing.
-use Prim.Native.Nat.{ℕ, zero, suc, _+_, _*_, _-_, _≤_}
+use Prim.Native.Nat.{_+_, _-_, _≤_}
 use mathlib.Core.Path.{_≡_, refl, sym, ap, _∙_}
 use native.Mathlib.Omega.{arith}
 use borrow.Author.Needs.{needs}
-use Rattle.cascade.specs.declared.Cascade.{Cascade}
 use Rattle.cascade.specs.Columns.{Columns, columns}
-use Rattle.cascade.specs.State.{afterTier, Steady}
-use Rattle.cascade.specs.After.{steady-wider, steady-after, none-moved}
+use Rattle.cascade.specs.State.{afterTier}
+use Rattle.cascade.specs.After.{steady-wider, none-moved}
+use Rattle.cascade.proofs.Tiers.{tiers, tiers-next, steady}
 use Rattle.cascade.proofs.Cascade.run.Statement.{statement}
 use Rattle.cascade.proofs.Cascade.run.Tie as tie
-
--- the state after tiers 1 to k
-abbrev tiers : ℕ → Columns → Cascade → Cascade
-tiers zero c st = st
-tiers (suc k) c st = afterTier (suc k) c (tiers k c st)
-
-tiers-next : (k : ℕ) (c : Columns) (st : Cascade) → tiers (k + 1) c st ≡ afterTier (k + 1) c (tiers k c st)
-tiers-next k c st = let e : k + 1 ≡ suc k = omega arith in rw e refl
-
-steady : (k : ℕ) (c : Columns) (st : Cascade) → Steady 0 c st → Steady (k * 1_024_000_000) c (tiers k c st)
-steady zero c st s = steady-wider (omega arith) s
-steady (suc k) c st s = steady-wider (omega arith) (steady-after (suc k) c (tiers k c st) (steady k c st s))
 
 abbrev Inv-loop : tie.InvT-loop
 Inv-loop keys standings stakes count owed state₀ k₀ state k = (k ≤ 3) × (state ≡ tiers k (columns keys standings stakes count) state₀)
