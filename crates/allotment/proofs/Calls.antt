@@ -20,19 +20,19 @@ use Rattle.roll.specs.Roll.{Room, Rolled, Held}
 use Rattle.report.specs.Sheet.{reportBytes, listingBytes, Placed}
 use Rattle.allotment.specs.declared.Closed.{Closed}
 use Rattle.allotment.specs.declared.Worked.{Worked}
-use Rattle.allotment.specs.Worked.{listingRoom, atFirst, closedOf, sheetOf, Came}
+use Rattle.allotment.specs.Worked.{listingRoom, atFirst, closedOf, workedNot, sheetOf, Came}
 use Rattle.allotment.specs.Answered.{Judged}
-use Rattle.allotment.proofs.Start.{start-steady}
-use Rattle.allotment.proofs.Shown.{report-is, listing-is, placed}
+use Rattle.allotment.proofs.Start.{lines-are, start-steady}
+use Rattle.allotment.proofs.Shown.{lines-shown, report-is, listing-is, placed}
 use Rattle.allotment.proofs.Space.{listing-room}
 
 -- A roll with number 0 is an accepted book's, and any other a refused one's
 module _ (s keys starts standings stakes : List ℕ) (r : Roll) (e : Rolled s (judge s) keys starts standings stakes r) where
-  pub refuses : (w : Worked) → w .refusal ≡ r .refusal → (r .refusal .number ≡ 0 → ⊥) → Came s (judge s) starts standings w
-  refuses w f z = go (judge s) e
+  pub refuses : (f : Refusal) → f ≡ r .refusal → (r .refusal .number ≡ 0 → ⊥) → Came s (judge s) keys starts standings stakes (workedNot f)
+  refuses f y z = go (judge s) e
     where
-      go : (v : Verdict) → Rolled s v keys starts standings stakes r → Came s v starts standings w
-      go (Refused n place) j = f ∙ ap (λ (x : Roll). x .refusal) j
+      go : (v : Verdict) → Rolled s v keys starts standings stakes r → Came s v keys starts standings stakes (workedNot f)
+      go (Refused n place) j = ap workedNot (y ∙ ap (λ (x : Roll). x .refusal) j)
       go (Accepted terms cs) j = absurd (z (ap (λ (x : Refusal). x .number) (j .0)))
 
   pub record Accepts : Type 0 where
@@ -54,13 +54,21 @@ module _ (s keys starts standings stakes : List ℕ) (r : Roll) (e : Rolled s (j
     pub steady : Steady 0 (columns keys standings stakes (r .count)) atFirst
     steady = start-steady (a .terms) (accepted-sane s (a .terms) (a .customers) (a .accepted)) (a .held) room
 
+    -- what the cascade leaves, with the roll's refusal
+    abbrev done : Closed → Refusal → Worked
+    done d f = record { refusal = f; count = r .count; offset = d .offset; total = d .total; residue = d .residue }
+
     came : (d : Closed) → d ≡ closedOf (columns keys standings stakes (r .count)) → (f : Refusal) → f ≡ r .refusal →
-        Came s (Accepted (a .terms) (a .customers)) starts standings (record { refusal = f; count = r .count; offset = d .offset; total = d .total; residue = d .residue })
+        Came s (Accepted (a .terms) (a .customers)) keys starts standings stakes (done d f)
     came d x f y =
         let k = accepted-sane s (a .terms) (a .customers) (a .accepted) in
+        let t = y ∙ a .told in
         rw x (
-          y ∙ a .told,
+          (λ j. done (closedOf (columns keys standings stakes (r .count))) (t j)),
           record {
+            counted = a .held .counted;
+            before = lines-are (a .terms) k (a .held);
+            after = lines-shown (a .terms) k (a .held);
             placed = placed (a .terms) k (a .held) room;
             stood = omega (arith, steady .stood);
             reports = report-is (a .terms) k (a .held);
@@ -70,10 +78,10 @@ module _ (s keys starts standings stakes : List ℕ) (r : Roll) (e : Rolled s (j
         )
 
     pub closes : (d : Closed) → d ≡ closedOf (columns keys standings stakes (r .count)) → (f : Refusal) → f ≡ r .refusal →
-        Came s (judge s) starts standings (record { refusal = f; count = r .count; offset = d .offset; total = d .total; residue = d .residue })
+        Came s (judge s) keys starts standings stakes (done d f)
     closes d x f y = rw (a .accepted) (came d x f y)
 
-module _ (s starts standings : List ℕ) (w : Worked) (e : Came s (judge s) starts standings w) where
+module _ (s keys starts standings stakes : List ℕ) (w : Worked) (e : Came s (judge s) keys starts standings stakes w) where
   -- a number above 0: nothing is written
   pub record Stops : Type 0 where
     pub answers : (room : ℕ) → answer s room ≡ refused01 (w .refusal .number) (w .refusal .place)
@@ -84,14 +92,14 @@ module _ (s starts standings : List ℕ) (w : Worked) (e : Came s (judge s) star
   unfolding answer listing
   stops z = go (judge s) refl e
     where
-      go : (v : Verdict) → judge s ≡ v → Came s v starts standings w → Stops
+      go : (v : Verdict) → judge s ≡ v → Came s v keys starts standings stakes w → Stops
       go (Refused n place) j f =
           record {
-            answers = λ room. ap (answerOf room) j ∙ ap (λ (r : Refusal). refused01 (r .number) (r .place)) (sym f);
-            lists = ap listingOf j ∙ ap (λ (r : Refusal). listingOf (Refused (r .number) (r .place))) (sym f);
-            judged = subst (λ (v : Verdict). Judged v (w .refusal .number) (w .refusal .place)) (sym j) (ap (λ (r : Refusal). r .number) f, ap (λ (r : Refusal). r .place) f);
+            answers = λ room. ap (answerOf room) j ∙ ap (λ (r : Worked). refused01 (r .refusal .number) (r .refusal .place)) (sym f);
+            lists = ap listingOf j ∙ ap (λ (r : Worked). listingOf (Refused (r .refusal .number) (r .refusal .place))) (sym f);
+            judged = subst (λ (v : Verdict). Judged v (w .refusal .number) (w .refusal .place)) (sym j) (ap (λ (r : Worked). r .refusal .number) f, ap (λ (r : Worked). r .refusal .place) f);
           }
-      go (Accepted terms cs) j f = absurd (z (ap (λ (x : Refusal). x .number) (f .0)))
+      go (Accepted terms cs) j f = absurd (z (ap (λ (x : Worked). x .refusal .number) (f .0)))
 
   -- number 0: the columns show the outcome
   pub record Goes : Type 0 where
@@ -106,9 +114,9 @@ module _ (s starts standings : List ℕ) (w : Worked) (e : Came s (judge s) star
   unfolding answer listing
   goes z = go (judge s) refl e
     where
-      go : (v : Verdict) → judge s ≡ v → Came s v starts standings w → Goes
+      go : (v : Verdict) → judge s ≡ v → Came s v keys starts standings stakes w → Goes
       go (Refused n place) j f =
-          absurd (let q : w .refusal .number ≡ n = ap (λ (x : Refusal). x .number) f in let p = refused-above s n place j in omega arith)
+          absurd (let q : w .refusal .number ≡ n = ap (λ (x : Worked). x .refusal .number) f in let p = refused-above s n place j in omega arith)
       go (Accepted terms cs) j f =
           let h = f .1 in
           record {

@@ -64,6 +64,9 @@ module _ {book : List ℕ} (terms : Terms) {cs : List Customer} {keys starts sta
   unfolding outcome
   same = run-recoded c atFirst refl keyOf ls (in-order terms cs (k .all)) (lines-are terms k h)
 
+  pub lines-shown : linesOf c (done .offset) ≡ map (recode keyOf) (outcome terms cs .lines)
+  lines-shown = ap (λ (o : Outcome). o .lines) (sym same)
+
   abbrev lines : List Line
   lines = outcome terms cs .lines
 

@@ -11,10 +11,11 @@ ghost use Rattle.rules.specs.Answer.{fitted, answer};
 ghost use Rattle.rules.specs.Report.{listing};
 ghost use Rattle.cascade.specs.Columns.{columns};
 ghost use Rattle.cascade.specs.State.{Steady};
-ghost use Rattle.roll.specs.Roll.{Room};
+ghost use Rattle.roll.specs.Roll.{Room, filledBy};
+ghost use Rattle.roll.specs.Roll.{columns as filledWith};
 ghost use Rattle.report.specs.Sheet.{sheet, reportBytes, Placed};
 ghost use Rattle.allotment.specs.Answered.{Answered, Listed, Judged};
-ghost use Rattle.allotment.specs.Worked.{listingRoom, atFirst, closedOf, Came};
+ghost use Rattle.allotment.specs.Worked.{listingRoom, atFirst, closedOf, CameOut};
 
 // A buffer that every listing fits: 256 lines of at most 26 bytes, and at most 33 before them.
 pub const LISTING_ROOM: usize = 8_192;
@@ -42,8 +43,8 @@ fn less(owed: u64, total: u64) -> u64
     if total < owed { owed - total } else { 0 }
 }
 
-// The cascade over the columns.
-fn close(keys: &[u64], standings: &[u8], stakes: &[u32], count: usize) -> Closed
+// The cascade over the customers in the columns, or in rows made of them.
+fn close(keys: &[u64], standings: &[u8], stakes: &[u32], count: usize, in_rows: bool) -> Closed
     requires { ⌜ Steady 0 (columns (now keys) (now standings) (now stakes) count) atFirst ⌝ }
     ensures { λ r. ⌜ r ≡ closedOf (columns (now (keys .entry)) (now (standings .entry)) (now (stakes .entry)) count) ⌝ }
 {
@@ -52,7 +53,7 @@ fn close(keys: &[u64], standings: &[u8], stakes: &[u32], count: usize) -> Closed
         offset: [0u32; MOST_CUSTOMERS],
         total: 0,
     };
-    let end = start.run(keys, standings, stakes, count, owed);
+    let end = cascade::run(start, keys, standings, stakes, count, owed, in_rows);
     let total = end.total;
     let offset = end.offset;
     Closed {
@@ -62,16 +63,17 @@ fn close(keys: &[u64], standings: &[u8], stakes: &[u32], count: usize) -> Closed
     }
 }
 
-// What a book comes to: its roll in the columns, run through the cascade.
-fn work_out(
+// What a book comes to: its roll in the columns, run through the cascade, which works in rows or in columns.
+pub fn work_out_in(
     book: &[u8],
     keys: &mut [u64],
     starts: &mut [u16],
     standings: &mut [u8],
     stakes: &mut [u32],
+    in_rows: bool,
 ) -> Worked
     requires { ⌜ Room (now keys) (now starts) (now standings) (now stakes) ⌝ }
-    ensures { λ r. ⌜ Came (now (book .entry)) (judge (now (book .entry))) (now (starts .exit)) (now (standings .exit)) r ⌝ }
+    ensures { λ r. ⌜ CameOut (now (book .entry)) (judge (now (book .entry))) (filledBy (now (book .entry)) (filledWith (now (keys .entry)) (now (starts .entry)) (now (standings .entry)) (now (stakes .entry)))) (now (keys .exit)) (now (starts .exit)) (now (standings .exit)) (now (stakes .exit)) r ⌝ }
 {
     let roll = roll::read_roll(book, keys, starts, standings, stakes);
     let refusal = roll.refusal;
@@ -85,7 +87,7 @@ fn work_out(
             residue: 0,
         };
     }
-    let closed = close(keys, standings, stakes, count);
+    let closed = close(keys, standings, stakes, count, in_rows);
     let offset = closed.offset;
     Worked {
         refusal: refusal,
@@ -94,6 +96,20 @@ fn work_out(
         total: closed.total,
         residue: closed.residue,
     }
+}
+
+// The same in columns, which take less time and stack than rows (docs/BENCHMARKS.md).
+pub fn work_out(
+    book: &[u8],
+    keys: &mut [u64],
+    starts: &mut [u16],
+    standings: &mut [u8],
+    stakes: &mut [u32],
+) -> Worked
+    requires { ⌜ Room (now keys) (now starts) (now standings) (now stakes) ⌝ }
+    ensures { λ r. ⌜ CameOut (now (book .entry)) (judge (now (book .entry))) (filledBy (now (book .entry)) (filledWith (now (keys .entry)) (now (starts .entry)) (now (standings .entry)) (now (stakes .entry)))) (now (keys .exit)) (now (starts .exit)) (now (standings .exit)) (now (stakes .exit)) r ⌝ }
+{
+    work_out_in(book, keys, starts, standings, stakes, false)
 }
 
 // The answer of a call. Accepted: 0, place 0 and the report's length. Refused: the number, its place and length 0; for 11 the place
@@ -146,15 +162,22 @@ fn report_lines(
 }
 
 // A book and a lent buffer: the answer, and the report at the front of the buffer where the book is accepted. All else in the buffer
-// is as it was, and all of it on a refusal.
-pub fn allot(book: &[u8], report: &mut [u8]) -> Answer
+// is as it was, and all of it on a refusal. Whether the cascade works in rows changes nothing of it.
+pub fn allot_in(book: &[u8], report: &mut [u8], in_rows: bool) -> Answer
     ensures { λ r. ⌜ Answered (answer (now (book .entry)) (length (now (report .entry)))) r (now (report .entry)) (now (report .exit)) ⌝ }
 {
     let mut keys = [0u64; MOST_CUSTOMERS];
     let mut starts = [0u16; MOST_CUSTOMERS];
     let mut standings = [0u8; MOST_CUSTOMERS];
     let mut stakes = [0u32; MOST_CUSTOMERS];
-    let worked = work_out(book, &mut keys, &mut starts, &mut standings, &mut stakes);
+    let worked = work_out_in(
+        book,
+        &mut keys,
+        &mut starts,
+        &mut standings,
+        &mut stakes,
+        in_rows,
+    );
     let refused = worked.refusal;
     if refused.number != refusal::ACCEPTED {
         return Answer {
@@ -174,6 +197,13 @@ pub fn allot(book: &[u8], report: &mut [u8]) -> Answer
         worked.residue,
         report,
     )
+}
+
+// The same in columns.
+pub fn allot(book: &[u8], report: &mut [u8]) -> Answer
+    ensures { λ r. ⌜ Answered (answer (now (book .entry)) (length (now (report .entry)))) r (now (report .entry)) (now (report .exit)) ⌝ }
+{
+    allot_in(book, report, false)
 }
 
 // What a listing says: the book's number and place, and how many bytes of the buffer it takes.

@@ -12,7 +12,7 @@ ghost use Rattle.writing.specs.Shown.{shown};
 ghost use Rattle.report.specs.Sheet.{sheet, frontBytes, lineBytes, sheetBytes, reportBytes, Placed};
 
 // The standing of a byte.
-fn standing_of(byte: u8) -> Standing
+pub fn standing_of(byte: u8) -> Standing
     ensures { λ r. ⌜ r ≡ standingOf byte ⌝ }
 {
     match byte {

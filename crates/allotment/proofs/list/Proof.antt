@@ -23,13 +23,13 @@ came k = k .before .before .before .before .before .before
 abbrev begin : tie.After-work-out → tie.Start
 begin w = w .before .before .before .before .before .before .before
 
-stopped : (c : tie.Then1) → let w = came (c .before) in let l = w .work-out .last .1 .1 in
-    Stops (begin w .args .book .now) (l .0) (l .1 .0) (w .work-out .result) (w .work-out .ensures)
-stopped c = let w = came (c .before) in let l = w .work-out .last .1 .1 in stops (begin w .args .book .now) (l .0) (l .1 .0) (w .work-out .result) (w .work-out .ensures) (c .if1 .taken)
+stopped : (c : tie.Then1) → let w = came (c .before) in let l = w .work-out .last .1 in
+    Stops (begin w .args .book .now) (l .0) (l .1 .0) (l .1 .1 .0) (l .1 .1 .1 .0) (w .work-out .result) (w .work-out .ensures .came)
+stopped c = let w = came (c .before) in let l = w .work-out .last .1 in stops (begin w .args .book .now) (l .0) (l .1 .0) (l .1 .1 .0) (l .1 .1 .1 .0) (w .work-out .result) (w .work-out .ensures .came) (c .if1 .taken)
 
-gone : (c : tie.Else1) → let w = came (c .before) in let l = w .work-out .last .1 .1 in
-    Goes (begin w .args .book .now) (l .0) (l .1 .0) (w .work-out .result) (w .work-out .ensures)
-gone c = let w = came (c .before) in let l = w .work-out .last .1 .1 in goes (begin w .args .book .now) (l .0) (l .1 .0) (w .work-out .result) (w .work-out .ensures) (c .if1 .left)
+gone : (c : tie.Else1) → let w = came (c .before) in let l = w .work-out .last .1 in
+    Goes (begin w .args .book .now) (l .0) (l .1 .0) (l .1 .1 .0) (l .1 .1 .1 .0) (w .work-out .result) (w .work-out .ensures .came)
+gone c = let w = came (c .before) in let l = w .work-out .last .1 in goes (begin w .args .book .now) (l .0) (l .1 .0) (l .1 .1 .0) (l .1 .1 .1 .0) (w .work-out .result) (w .work-out .ensures .came) (c .if1 .left)
 
 -- a refusal is a short line
 module _ (c : tie.Then1) where

@@ -7,8 +7,8 @@ use native.Mathlib.Omega.{arith}
 use Rattle.roll.specs.Roll.{Room}
 use Rattle.allotment.proofs.Calls.{refuses, Accepts, accepts, steady, closes}
 use borrow.Author.Needs.{needs}
-use Rattle.allotment.proofs.work_out.Statement.{statement}
-use Rattle.allotment.proofs.work_out.Tie as tie
+use Rattle.allotment.proofs.work_out_in.Statement.{statement}
+use Rattle.allotment.proofs.work_out_in.Tie as tie
 
 abbrev start : tie.After-read-roll → tie.Start
 start r = r .before .before .before .before .before .before .before .before .before .before
@@ -55,7 +55,12 @@ same-length-4 : tie.Need-same-length-4
 same-length-4 c = search needs
 
 returns : tie.Need-returns
-returns c = let r = rolled (c .before) in refuses (start r .args .book .now) (keys r) (starts r) (standings r) (stakes r) (r .read-roll .result) (r .read-roll .ensures .rolled) _ refl (c .if1 .taken)
+returns c =
+    let r = rolled (c .before) in
+    record {
+      came = refuses (start r .args .book .now) (keys r) (starts r) (standings r) (stakes r) (r .read-roll .result) (r .read-roll .ensures .rolled) _ refl (c .if1 .taken);
+      filled = r .read-roll .ensures .filled;
+    }
 
 close-requires : tie.Need-close-requires
 close-requires c κs = let e = c .before .before .before in let r = rolled (e .before) in steady (start r .args .book .now) (keys r) (starts r) (standings r) (stakes r) (r .read-roll .result) (r .read-roll .ensures .rolled) (accepted e) (wide (e .before))
@@ -77,10 +82,13 @@ returns-2 c =
     let d = c .before in
     let e = d .before .before .before .before in
     let r = rolled (e .before) in
-    closes (start r .args .book .now) (keys r) (starts r) (standings r) (stakes r) (r .read-roll .result) (r .read-roll .ensures .rolled) (accepted e) (wide (e .before)) (d .close .result) (d .close .ensures) _ refl
+    record {
+      came = closes (start r .args .book .now) (keys r) (starts r) (standings r) (stakes r) (r .read-roll .result) (r .read-roll .ensures .rolled) (accepted e) (wide (e .before)) (d .close .result) (d .close .ensures) _ refl;
+      filled = r .read-roll .ensures .filled;
+    }
 
-pub work-out-spec : {M : Type 1} → statement M
-work-out-spec =
+pub work-out-in-spec : {M : Type 1} → statement M
+work-out-in-spec =
     tie.close
     (tie.spec
     read-roll-requires
