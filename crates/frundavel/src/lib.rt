@@ -6,6 +6,7 @@ ghost use lib.ListN.{length};
 ghost use Rattle.rules.specs.Answer.{fitted, answer};
 ghost use Rattle.reasons.specs.Reason.{fieldAt, reason};
 ghost use Rattle.allotment.specs.Answered.{Answered};
+ghost use Rattle.columns.specs.View.{runs, placesOf, viewed, Viewed};
 
 // A book and a lent buffer: the answer, and the report at the front of the buffer where the book is accepted.
 #[no_mangle]
@@ -13,6 +14,20 @@ pub extern "C" fn frundavel_allot(book: &[u8], report: &mut [u8]) -> Answer
     ensures { λ r. ⌜ Answered (answer (now (book .entry)) (length (now (report .entry)))) r (now (report .entry)) (now (report .exit)) ⌝ }
 {
     allotment::allot(book, report)
+}
+
+// A book and four lent runs: the answer, and in the first places of each run the book's customers where it is accepted.
+#[no_mangle]
+pub extern "C" fn frundavel_columns(
+    book: &[u8],
+    standings: &mut [u8],
+    offered: &mut [u64],
+    pending: &mut [u64],
+    offsets: &mut [u64],
+) -> Answer
+    ensures { λ r. ⌜ Viewed (viewed (now (book .entry)) (placesOf (runs (now (standings .entry)) (now (offered .entry)) (now (pending .entry)) (now (offsets .entry))))) (runs (now (standings .entry)) (now (offered .entry)) (now (pending .entry)) (now (offsets .entry))) (runs (now (standings .exit)) (now (offered .exit)) (now (pending .exit)) (now (offsets .exit))) r ⌝ }
+{
+    columns::columns(book, standings, offered, pending, offsets)
 }
 
 // A text at the front of a lent buffer, or 11.
