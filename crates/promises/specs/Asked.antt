@@ -17,6 +17,7 @@ use Rattle.writing.proofs as writing
 use Rattle.entries.proofs as entries
 use Rattle.reasons.proofs as reasons
 use Rattle.allotment.proofs as allotment
+use Rattle.columns.proofs as columns
 use Rattle.frundavel.proofs as frundavel
 use Rattle.command.proofs as command
 
@@ -32,6 +33,15 @@ frundavel-allot κs a = tt
 
 pub frundavel-reason : AsksNothing frundavel.frundavel_reason.ended frundavel.frundavel_reason.Reads.Asked
 frundavel-reason κs a = tt
+
+pub in-columns : AsksNothing columns.columns.ended columns.columns.Reads.Asked
+in-columns κs a = tt
+
+pub allot-in : AsksNothing allotment.allot_in.ended allotment.allot_in.Reads.Asked
+allot-in κs a = tt
+
+pub frundavel-columns : AsksNothing frundavel.frundavel_columns.ended frundavel.frundavel_columns.Reads.Asked
+frundavel-columns κs a = tt
 
 -- 8,192 bytes, no more and no less
 pub list : (κs : Lfts 2) (a : Args allotment.list.signature κs) → allotment.list.Reads.Asked κs a ↔ (8_192 ≤ length (now (a .1 .0)))

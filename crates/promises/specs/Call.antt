@@ -32,3 +32,7 @@ module _ (c : Call) where
 -- A call of `allot` is one too: its contract is the same, so that the promises hold of it
 pub of-allot : (κs : Lfts 2) (a : Args allotment.allot.signature κs) (r : Answer) (s : AtExit allotment.allot.ended κs) → allotment.allot.Reads.Learnt κs a r s → Call
 of-allot κs a r s h = record { lifetimes = κs; arguments = a; answer = r; exit = s; contract = h }
+
+-- and so is a call of `allot_in`, whatever the layout, which the contract does not name
+pub of-allot-in : (κs : Lfts 2) (a : Args allotment.allot_in.signature κs) (r : Answer) (s : AtExit allotment.allot_in.ended κs) → allotment.allot_in.Reads.Learnt κs a r s → Call
+of-allot-in κs a r s h = record { lifetimes = κs; arguments = (a .0, (a .1 .0, tt)); answer = r; exit = (s .0, (s .1 .0, tt)); contract = h }

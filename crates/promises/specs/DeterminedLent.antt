@@ -8,10 +8,15 @@ use Rattle.rules.specs.Book.{Verdict, Refused, Accepted, judge}
 use Rattle.writing.specs.Written.{Wrote}
 use Rattle.roll.specs.declared.Roll.{Roll}
 use Rattle.roll.specs.Roll.{Columns, Rolled}
+use Rattle.roll.specs.Roll.{columns as rollColumns}
 use Rattle.rules.specs.Answer.{Answer as Answer01}
 use Rattle.allotment.specs.declared.Answer.{Answer}
 use Rattle.allotment.specs.declared.Listing.{Listing}
 use Rattle.allotment.specs.Answered.{Answered, Judged}
+use Rattle.allotment.specs.declared.Worked.{Worked}
+use Rattle.allotment.specs.Worked.{workedIn, Came, CameOut}
+use Rattle.cascade.specs.Columns.{columns as cascadeColumns}
+use Rattle.columns.specs.View.{Runs, runs, Viewed}
 use Rattle.division.proofs as division
 use Rattle.cascade.proofs as cascade
 use Rattle.writing.proofs as writing
@@ -21,6 +26,8 @@ use Rattle.roll.proofs as roll
 use Rattle.report.proofs as report
 use Rattle.reasons.proofs as reasons
 use Rattle.allotment.proofs as allotment
+use Rattle.columns.proofs as columns
+use Rattle.rows.proofs as rows
 use Rattle.frundavel.proofs as frundavel
 use Rattle.promises.specs.Determined.{Determined}
 
@@ -39,6 +46,21 @@ owed κs a r q s t e f = (e ∙ sym f, refl)
 
 pub run : Determined cascade.Cascade.run.ended cascade.Cascade.run.Reads.Learnt
 run κs a r q s t e f = (e ∙ sym f, refl)
+
+pub run-in : Determined cascade.run.ended cascade.run.Reads.Learnt
+run-in κs a r q s t e f = (e ∙ sym f, refl)
+
+pub run-rows : Determined cascade.rows.run.ended cascade.rows.run.Reads.Learnt
+run-rows κs a r q s t e f = (e ∙ sym f, refl)
+
+pub to-rows : Determined cascade.rows.to_rows.ended cascade.rows.to_rows.Reads.Learnt
+to-rows κs a r q s t e f = (e ∙ sym f, refl)
+
+pub to-columns : Determined cascade.rows.to_columns.ended cascade.rows.to_columns.Reads.Learnt
+to-columns κs a r q s t e f = (
+  refl,
+  λ i. (tt, (tt, ((e .keyed ∙ sym (f .keyed)) i, ((e .stood ∙ sym (f .stood)) i, ((e .staked ∙ sym (f .staked)) i, ((e .wide ∙ sym (f .wide)) i, tt)))))),
+)
 
 pub tier : Determined cascade.Cascade.tier.ended cascade.Cascade.tier.Reads.Learnt
 tier κs a r q s t e f = (e ∙ sym f, refl)
@@ -114,13 +136,36 @@ read-roll κs a r q s t e f = (
 )
 
 -- report
+pub standing-of : Determined report.standing_of.ended report.standing_of.Reads.Learnt
+standing-of κs a r q s t e f = (e ∙ sym f, refl)
+
 pub report-length : Determined report.report_length.ended report.report_length.Reads.Learnt
 report-length κs a r q s t e f = (e [] ∙ sym (f []), refl)
 
 pub put-sheet : Determined report.put_sheet.ended report.put_sheet.Reads.Learnt
 put-sheet κs a r q s t e f = wrote e f
 
--- allotment
+-- allotment: what a book comes to is determined by the columns that it fills
+module _ (book : List ℕ) (r q : Worked) where
+  same-worked : (v : Verdict) (c d : Columns) → c ≡ d → Came book v (c .keys) (c .starts) (c .standings) (c .stakes) r →
+      Came book v (d .keys) (d .starts) (d .standings) (d .stakes) q → r ≡ q
+  same-worked (Refused number place) c d same e f = e ∙ sym f
+  same-worked (Accepted terms cs) c d same e f =
+      let n = e .1 .counted ∙ sym (f .1 .counted) in
+      e .0 ∙ (λ i. workedIn (cascadeColumns (same i .keys) (same i .standings) (same i .stakes) (n i))) ∙ sym (f .0)
+
+came-out : {book : List ℕ} {r q : Worked} {full : Columns} {k l m n k′ l′ m′ n′ : List ℕ} → CameOut book (judge book) full k l m n r → CameOut book (judge book) full k′ l′ m′ n′ q →
+    (r ≡ q) × (rollColumns k l m n ≡ rollColumns k′ l′ m′ n′)
+came-out {book} {r} {q} e f = let same = e .filled ∙ sym (f .filled) in (same-worked book r q (judge book) _ _ same (e .came) (f .came), same)
+
+pub work-out : Determined allotment.work_out.ended allotment.work_out.Reads.Learnt
+work-out κs a r q s t e f =
+    let same = came-out e f in (same .0, ap (λ (c : Columns). (tt, (c .keys, (c .starts, (c .standings, (c .stakes, tt)))))) (same .1))
+
+pub work-out-in : Determined allotment.work_out_in.ended allotment.work_out_in.Reads.Learnt
+work-out-in κs a r q s t e f =
+    let same = came-out e f in (same .0, ap (λ (c : Columns). (tt, (c .keys, (c .starts, (c .standings, (c .stakes, (tt, tt))))))) (same .1))
+
 same-listing : (v : Verdict) (r q : Listing) → r .length ≡ q .length → Judged v (r .number) (r .place) → Judged v (q .number) (q .place) → r ≡ q
 same-listing (Refused n place) r q l e f = λ i. record { number = (e .0 ∙ sym (f .0)) i; place = (e .1 ∙ sym (f .1)) i; length = l i }
 same-listing (Accepted terms cs) r q l e f = λ i. record { number = (e .0 ∙ sym (f .0)) i; place = (e .1 ∙ sym (f .1)) i; length = l i }
@@ -131,13 +176,22 @@ list κs a r q s t e f = (
   ap (λ out. (tt, (out, tt))) (e .0 .buffer ∙ sym (f .0 .buffer)),
 )
 
+same-answer : {r q : Answer} → r .number ≡ q .number → r .place ≡ q .place → r .length ≡ q .length → r ≡ q
+same-answer n p l = λ i. record { number = n i; place = p i; length = l i }
+
 -- a contract that names the three numbers, and the bytes of the buffer that is lent second
 answered : {a : Answer01} {r q : Answer} {entry x y : List ℕ} → Answered a r entry x → Answered a q entry y →
     (r ≡ q) × (_≡_ {A = Unit {0} × (List ℕ × Unit {0})} (tt, (x, tt)) (tt, (y, tt)))
 answered e f = (
-  λ i. record { number = (e .number ∙ sym (f .number)) i; place = (e .place ∙ sym (f .place)) i; length = (e .length ∙ sym (f .length)) i },
+  same-answer (e .number ∙ sym (f .number)) (e .place ∙ sym (f .place)) (e .length ∙ sym (f .length)),
   ap (λ out. (tt, (out, tt))) (e .buffer ∙ sym (f .buffer)),
 )
+
+pub allot-in : Determined allotment.allot_in.ended allotment.allot_in.Reads.Learnt
+allot-in κs a r q s t e f = (answered e f .0, ap (λ out. (tt, (out, (tt, tt)))) (e .buffer ∙ sym (f .buffer)))
+
+pub frundavel-allot-in-rows : Determined rows.frundavel_allot_in_rows.ended rows.frundavel_allot_in_rows.Reads.Learnt
+frundavel-allot-in-rows κs a r q s t e f = answered e f
 
 pub allot : Determined allotment.allot.ended allotment.allot.Reads.Learnt
 allot κs a r q s t e f = answered e f
@@ -151,3 +205,19 @@ frundavel-reason κs a r q s t e f = (
   answered e f .0,
   ap (λ (l : Unit {0} × (List ℕ × Unit {0})). (tt, (tt, l))) (answered e f .1),
 )
+
+-- columns: the three numbers, and every place of the four runs that are lent behind the book
+abbrev lasts : Runs → Unit {0} × (List ℕ × (List ℕ × (List ℕ × (List ℕ × Unit {0}))))
+lasts x = (tt, (x .standings, (x .offered, (x .pending, (x .offsets, tt)))))
+
+viewed : {a : (Runs → List ℕ) → Answer01} {r q : Answer} {entry x y : Runs} → Viewed a entry x r → Viewed a entry y q → (r ≡ q) × (lasts x ≡ lasts y)
+viewed {x = x} {y = y} e f = (
+  same-answer (e .number ∙ sym (f .number)) (e .place ∙ sym (f .place)) (e .length ∙ sym (f .length)),
+  λ i. lasts (runs ((e .standings ∙ sym (f .standings)) i) ((e .offered ∙ sym (f .offered)) i) ((e .pending ∙ sym (f .pending)) i) ((e .offsets ∙ sym (f .offsets)) i)),
+)
+
+pub in-columns : Determined columns.columns.ended columns.columns.Reads.Learnt
+in-columns κs a r q s t e f = viewed e f
+
+pub frundavel-columns : Determined frundavel.frundavel_columns.ended frundavel.frundavel_columns.Reads.Learnt
+frundavel-columns κs a r q s t e f = viewed e f

@@ -3,6 +3,7 @@ pub mod Call
 pub mod Asked
 pub mod Determined
 pub mod DeterminedLent
+pub mod ViewCall
 pub mod Outcomes
 pub mod Reasons
 pub mod Given
@@ -14,6 +15,8 @@ pub mod Numbers
 pub mod CallExactly
 pub mod Demands
 pub mod Demand3
+pub mod InColumns
+pub mod Layouts
 pub mod Room
 pub mod Fair
 pub mod Statement
