@@ -6,4 +6,5 @@ pub mod Contradicted
 pub mod Divided
 pub mod Cascaded
 pub mod Leaves
+pub mod InColumns
 pub mod Said
