@@ -7,13 +7,14 @@
 //! 2. [`terms`] and [`reader`] put fields together and give the refusals;
 //! 3. [`gain`] walks a customer's trades back, [`standing`] gives P, a tier or N;
 //! 4. [`division`] divides whole lots, [`cascade`] does so for the three tiers;
-//! 5. [`report`] and [`listing`] write the result; [`call`] is what callers use.
+//! 5. [`report`] and [`listing`] write the result, [`columns`] puts it into runs; [`call`] is what callers use.
 //!
 //! [`make`] generates books from a seed and shares no code with the steps above.
 
 pub mod call;
 pub mod cascade;
 pub mod code;
+pub mod columns;
 pub mod cursor;
 pub mod division;
 pub mod figures;
@@ -28,4 +29,5 @@ pub mod terms;
 pub mod units;
 
 pub use call::{allot, allot_into, Answer};
+pub use columns::columns_into;
 pub use listing::listing;
