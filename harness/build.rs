@@ -1,8 +1,11 @@
-//! Links the product's archive, which `rt staticlib frundavel` writes. It is for x86-64; elsewhere src/elsewhere.rs stands in for it, unless
+//! Links the product's archives, which `rt staticlib` writes. They are for x86-64; elsewhere src/elsewhere.rs stands in for them, unless
 //! FRUNDAVEL_ARCHIVE names the folder of another (harness/native).
 
 use std::env;
 use std::path::{Path, PathBuf};
+
+/// The crates whose C calls are tried: the product's, and the call worked in rows, which is compared with it.
+const ARCHIVES: [&str; 2] = ["frundavel", "rows"];
 
 fn main() {
     println!("cargo:rerun-if-env-changed=FRUNDAVEL_ARCHIVE");
@@ -10,15 +13,17 @@ fn main() {
     let Some(folder) = folder() else {
         return;
     };
-    let archive = folder.join("libfrundavel.a");
-    println!("cargo:rerun-if-changed={}", archive.display());
-    assert!(
-        archive.exists(),
-        "no archive to link: run `rt staticlib frundavel` first"
-    );
     println!("cargo:rustc-cfg=linked");
     println!("cargo:rustc-link-search=native={}", folder.display());
-    println!("cargo:rustc-link-lib=static=frundavel");
+    for name in ARCHIVES {
+        let archive = folder.join(format!("lib{name}.a"));
+        println!("cargo:rerun-if-changed={}", archive.display());
+        assert!(
+            archive.exists(),
+            "no archive to link: run `rt staticlib {name}` first"
+        );
+        println!("cargo:rustc-link-lib=static={name}");
+    }
 }
 
 /// Where the archive stands, if this machine has one.

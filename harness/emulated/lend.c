@@ -1,9 +1,11 @@
-/* The product's call behind standard input and output, for machines that cannot link an x86-64 archive.
+/* The product's calls behind standard input and output, for machines that cannot link an x86-64 archive.
    It needs no C library: it is linked with the archive alone and is run under an emulator.
 
-   Numbers are 8 bytes, low byte first. A question: the book's size, how many buffers are lent, the book; then
-   for each buffer its size with guards, the room's place in it, the room, and its bytes. The answer: for each
-   buffer number, place and length, then its bytes as the call left them. It ends with its input. */
+   Numbers are 8 bytes, low byte first. A question: the call, the book's size, how often something is lent, the book; then
+   what is lent each time. Call 0 is frundavel_allot, with one buffer; call 1 is frundavel_columns, with the runs offered,
+   pending, offsets and standings. Of a buffer or a run come its places with guards, the room's place in it, the room, and what
+   stands in it. The answer: each time number, place and length, then all that was lent as the call left it. It ends with its
+   input. */
 
 typedef unsigned char byte;
 typedef unsigned long size;
@@ -12,12 +14,17 @@ typedef byte __attribute__((vector_size(128), aligned(1), may_alias)) line;
 
 struct answer { size number, place, length; };
 struct answer frundavel_allot(const byte *book, size count, byte *report, size room);
+struct answer frundavel_columns(const byte *book, size count, byte *standings, size s, size *offered, size f, size *pending, size p,
+                                size *offsets, size o);
 
 enum { READ = 0, WRITE = 1, EXIT = 60 };
-enum { MOST_BOOK = 1 << 20, MOST_OUT = 1 << 20 };
+enum { MOST_BOOK = 1 << 20, MOST_OUT = 1 << 20, MOST_PLACES = 1 << 12 };
+enum { ALLOT = 0, COLUMNS = 1 };
 
 static byte book[MOST_BOOK];
 static byte out[MOST_OUT];
+static byte standings[MOST_PLACES];
+static size lots[3][MOST_PLACES];
 
 static long call(long number, long one, const void *two, size three)
 {
@@ -88,32 +95,68 @@ static void give(const void *from, size count)
     }
 }
 
-/* Lends one buffer and puts the answer and the buffer at the end of what is to go out. */
-static size lend(size count, size used)
+/* What is lent: all of it, and its bytes; the room in it, and its places. */
+struct lent { byte *whole; size bytes; byte *room; size places; };
+
+/* Takes a buffer or a run, of places of so many bytes. */
+static struct lent take_lent(void *to, size most, size width)
 {
     struct { size whole, place, room; } asked;
     take(&asked, sizeof asked, 0);
-    const size most = MOST_OUT - used - sizeof(struct answer);
-    if (asked.whole > most || asked.place > asked.whole || asked.room > asked.whole - asked.place)
+    if (asked.whole > most / width || asked.place > asked.whole || asked.room > asked.whole - asked.place)
         leave(2);
-    byte *lent = out + used + sizeof(struct answer);
-    take(lent, asked.whole, 0);
-    const struct answer answer = frundavel_allot(book, count, lent + asked.place, asked.room);
-    memcpy(out + used, &answer, sizeof answer);
-    return used + sizeof answer + asked.whole;
+    take(to, asked.whole * width, 0);
+    return (struct lent){to, asked.whole * width, (byte *)to + asked.place * width, asked.room};
+}
+
+/* Puts bytes at the end of what is to go out. */
+static size put(size used, const void *from, size count)
+{
+    if (count > MOST_OUT - used)
+        leave(2);
+    memcpy(out + used, from, count);
+    return used + count;
+}
+
+/* Lends one buffer, and puts the answer and the buffer at the end of what is to go out. */
+static size lend(size count, size used)
+{
+    const size after = used + sizeof(struct answer);
+    if (after > MOST_OUT)
+        leave(2);
+    const struct lent report = take_lent(out + after, MOST_OUT - after, 1);
+    const struct answer answer = frundavel_allot(book, count, report.room, report.places);
+    return put(used, &answer, sizeof answer) + report.bytes;
+}
+
+/* The same with four runs. */
+static size lend_runs(size count, size used)
+{
+    const struct lent offered = take_lent(lots[0], sizeof lots[0], sizeof(size));
+    const struct lent pending = take_lent(lots[1], sizeof lots[1], sizeof(size));
+    const struct lent offsets = take_lent(lots[2], sizeof lots[2], sizeof(size));
+    const struct lent letters = take_lent(standings, sizeof standings, 1);
+    const struct answer answer =
+        frundavel_columns(book, count, letters.room, letters.places, (size *)offered.room, offered.places, (size *)pending.room,
+                          pending.places, (size *)offsets.room, offsets.places);
+    used = put(used, &answer, sizeof answer);
+    used = put(used, offered.whole, offered.bytes);
+    used = put(used, pending.whole, pending.bytes);
+    used = put(used, offsets.whole, offsets.bytes);
+    return put(used, letters.whole, letters.bytes);
 }
 
 void serve(void)
 {
-    struct { size book, buffers; } asked;
+    struct { size call, book, lent; } asked;
     for (;;) {
         take(&asked, sizeof asked, 1);
-        if (asked.book > MOST_BOOK)
+        if (asked.book > MOST_BOOK || asked.call > COLUMNS)
             leave(2);
         take(book, asked.book, 0);
         size used = 0;
-        for (; asked.buffers; asked.buffers--)
-            used = lend(asked.book, used);
+        for (; asked.lent; asked.lent--)
+            used = asked.call == ALLOT ? lend(asked.book, used) : lend_runs(asked.book, used);
         give(out, used);
     }
 }

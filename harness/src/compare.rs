@@ -1,11 +1,14 @@
 //! One book through the program that is tried and through the second program.
 
+use std::fmt::LowerHex;
+
 use second::call::judge;
 use second::report;
 
-use crate::guarded::Lent;
+use crate::columns;
+use crate::guarded::{Lent, Place};
 use crate::product::Answer;
-use crate::program::Program;
+use crate::program::{Program, Tried};
 use crate::rearrange::everything_stays;
 use crate::statement::{Stated, Statement};
 
@@ -25,10 +28,14 @@ pub enum Check {
     TiersInTurn,
     ResidueAfterAll,
     Rearranged,
+    Columns,
+    Runs,
+    RunGuards,
+    MovedColumns,
 }
 
 impl Check {
-    pub const ALL: [(Check, &'static str); 10] = [
+    pub const ALL: [(Check, &'static str); 14] = [
         (Check::Answer, "number, place and length"),
         (Check::Buffer, "every byte of the buffer"),
         (Check::Guards, "guard bytes"),
@@ -53,6 +60,13 @@ impl Check {
         (
             Check::Rearranged,
             "another order and fewer bystanders change nothing",
+        ),
+        (Check::Columns, "columns: number, place and length"),
+        (Check::Runs, "columns: every place of the four runs"),
+        (Check::RunGuards, "columns: guard places around each run"),
+        (
+            Check::MovedColumns,
+            "columns: another order moves the values with their customers",
         ),
     ];
 
@@ -85,7 +99,7 @@ impl Counts {
     }
 
     /// Counts a check, and makes a difference of what it found.
-    fn hold<T>(
+    pub fn hold<T>(
         &mut self,
         check: Check,
         found: Result<T, String>,
@@ -121,14 +135,30 @@ pub struct Call {
     pub got: Option<Answer>,
 }
 
-/// Compares one book in all its rooms, then holds its report to the facts and to demand 3. `variety` decides
-/// what the buffers are filled with and how the customers are rearranged.
+/// Compares one book in all its rooms, then holds its report to the facts and to demand 3; then the same of its columns.
+/// `variety` decides what the buffers are filled with and how the customers are rearranged.
 pub fn compare(
-    program: &mut dyn Program,
+    tried: &mut Tried,
     book: &[u8],
     variety: u64,
     counts: &mut Counts,
 ) -> Result<(), Difference> {
+    let report = compare_report(&mut *tried.program, book, variety, counts)?;
+    columns::compare(&mut *tried.viewer, book, variety, counts)?;
+    let Some((report, call)) = report else {
+        return Ok(());
+    };
+    let stay = columns::values_stay(&mut *tried.viewer, book, &report, variety);
+    counts.hold(Check::MovedColumns, stay, call)
+}
+
+/// One book in all its rooms. Answers what the report of an accepted one states, and its call.
+fn compare_report(
+    program: &mut dyn Program,
+    book: &[u8],
+    variety: u64,
+    counts: &mut Counts,
+) -> Result<Option<(Statement, Call)>, Difference> {
     let accepted = accepted(book);
     let rooms = rooms(accepted, variety).into_iter();
     let mut want: Vec<Lent> = (rooms.zip(variety..))
@@ -142,12 +172,13 @@ pub fn compare(
         same_call(book, want, got, answer, counts)?;
     }
     let Some(length) = accepted else {
-        return Ok(());
+        return Ok(None);
     };
     let call = exact_call(length);
     let statement = facts(book, got[EXACT].room(), call, counts)?;
     let stays = everything_stays(program, book, &statement, length, variety);
-    counts.hold(Check::Rearranged, stays, call)
+    counts.hold(Check::Rearranged, stays, call)?;
+    Ok(Some((statement, call)))
 }
 
 /// One call: the second program is called with a buffer of the same bytes, and all must be the same after it.
@@ -158,7 +189,7 @@ fn same_call(
     answer: Result<Answer, &String>,
     counts: &mut Counts,
 ) -> Result<(), Difference> {
-    let right = second_answer(book, want.room_mut());
+    let right = answer_of(second::allot_into(book, want.room_mut()));
     let call = Call {
         room: want.size(),
         want: right,
@@ -166,7 +197,7 @@ fn same_call(
     };
     counts.rooms += 1;
     counts.hold(Check::Answer, same_answer(right, answer), call)?;
-    counts.hold(Check::Buffer, same_bytes(want.room(), got.room()), call)?;
+    counts.hold(Check::Buffer, same_places(want.room(), got.room()), call)?;
     counts.hold(Check::Guards, same_guards(want, got), call)?;
     count_number(counts, right, want.size());
     Ok(())
@@ -191,11 +222,7 @@ fn accepted(book: &[u8]) -> Option<usize> {
 
 /// The call of an accepted book in a room of its report's size, whose answer is known to be right.
 fn exact_call(length: usize) -> Call {
-    let answer = Answer {
-        number: 0,
-        place: 0,
-        length: length as u64,
-    };
+    let answer = answer_of((0, 0, length as u64));
     Call {
         room: length,
         want: answer,
@@ -203,8 +230,8 @@ fn exact_call(length: usize) -> Call {
     }
 }
 
-fn second_answer(book: &[u8], report: &mut [u8]) -> Answer {
-    let (number, place, length) = second::allot_into(book, report);
+/// What the second program answers, in the product's form.
+pub fn answer_of((number, place, length): (u64, u64, u64)) -> Answer {
     Answer {
         number,
         place,
@@ -218,7 +245,7 @@ fn count_number(counts: &mut Counts, want: Answer, room: usize) {
     }
 }
 
-fn same_answer(want: Answer, got: Result<Answer, &String>) -> Result<(), String> {
+pub fn same_answer(want: Answer, got: Result<Answer, &String>) -> Result<(), String> {
     match got {
         Ok(got) if got == want => Ok(()),
         Ok(_) => Err("the answers differ".to_string()),
@@ -226,22 +253,25 @@ fn same_answer(want: Answer, got: Result<Answer, &String>) -> Result<(), String>
     }
 }
 
-fn same_bytes(want: &[u8], got: &[u8]) -> Result<(), String> {
+pub fn same_places<T: PartialEq + LowerHex>(want: &[T], got: &[T]) -> Result<(), String> {
     if want == got {
         return Ok(());
     }
     let mut both = want.iter().zip(got).enumerate();
     let first = both.find(|(_, (one, other))| one != other);
     let told = first.map(|(place, (one, other))| {
-        format!("first differing byte at {place}: wanted {one:#04x}, got {other:#04x}")
+        format!("first difference at {place}: wanted {one:#04x}, got {other:#04x}")
     });
-    Err(told.unwrap_or_else(|| format!("{} bytes, not {}", got.len(), want.len())))
+    Err(told.unwrap_or_else(|| format!("{} places, not {}", got.len(), want.len())))
 }
 
-fn same_guards(want: &Lent, got: &Lent) -> Result<(), String> {
+pub fn same_guards<T: Place + PartialEq + LowerHex>(
+    want: &Lent<T>,
+    got: &Lent<T>,
+) -> Result<(), String> {
     let ((before, after), (got_before, got_after)) = (want.guards(), got.guards());
-    same_bytes(before, got_before).map_err(|told| format!("before the buffer, {told}"))?;
-    same_bytes(after, got_after).map_err(|told| format!("after the buffer, {told}"))
+    same_places(before, got_before).map_err(|told| format!("before the buffer, {told}"))?;
+    same_places(after, got_after).map_err(|told| format!("after the buffer, {told}"))
 }
 
 /// The form of an accepted book's report and the statement's four sentences. Answers what the report states.

@@ -11,5 +11,15 @@ pub struct Answer {
 
 /// There is nothing to call.
 pub fn allot(_book: &[u8], _report: &mut [u8]) -> Answer {
-    panic!("the product is an x86-64 archive and is not linked in on this machine")
+    panic!("{NOT_LINKED}")
 }
+
+pub fn allot_in_rows(book: &[u8], report: &mut [u8]) -> Answer {
+    allot(book, report)
+}
+
+pub fn columns(_book: &[u8], _standings: &mut [u8], _lots: [&mut [u64]; 3]) -> Answer {
+    panic!("{NOT_LINKED}")
+}
+
+const NOT_LINKED: &str = "the product is an x86-64 archive and is not linked in on this machine";

@@ -1,10 +1,10 @@
-//! A lent buffer with guard bytes around it.
+//! A lent buffer, or a lent run of numbers, with guards around it.
 
 use std::sync::OnceLock;
 
 use crate::draw::Draw;
 
-/// Guard bytes on either side of the room.
+/// Guard places on either side of the room.
 pub const GUARD: usize = 64;
 
 const PATTERN: usize = 1 << 16;
@@ -18,43 +18,69 @@ fn pattern() -> &'static [u8] {
     })
 }
 
-/// A room and its guards in one piece of memory, filled before the call.
-#[derive(Clone, Debug, PartialEq, Eq)]
-pub struct Lent {
-    bytes: Vec<u8>,
+/// What stands at one place.
+pub trait Place: Copy {
+    const BYTES: usize;
+
+    /// The places that bytes come to.
+    fn places(bytes: &[u8]) -> Vec<Self>;
 }
 
-impl Lent {
+impl Place for u8 {
+    const BYTES: usize = 1;
+
+    fn places(bytes: &[u8]) -> Vec<u8> {
+        bytes.to_vec()
+    }
+}
+
+impl Place for u64 {
+    const BYTES: usize = 8;
+
+    fn places(bytes: &[u8]) -> Vec<u64> {
+        let words = bytes.chunks_exact(Self::BYTES);
+        let number = |word: &[u8]| u64::from_le_bytes(word.try_into().expect("8 bytes"));
+        words.map(number).collect()
+    }
+}
+
+/// A room and its guards in one piece of memory, filled before the call.
+#[derive(Clone, Debug, PartialEq, Eq)]
+pub struct Lent<T = u8> {
+    places: Vec<T>,
+}
+
+impl<T: Place> Lent<T> {
     /// `variety` decides the bytes that it is filled with: a write of a byte that stood there already is
     /// hidden in one book and seen in the next. The room is at most half the pattern.
     pub fn new(room: usize, variety: u64) -> Self {
-        let size = room + 2 * GUARD;
+        let size = (room + 2 * GUARD) * T::BYTES;
         let start = Draw::new(variety).below(PATTERN - size);
         Lent {
-            bytes: pattern()[start..start + size].to_vec(),
+            places: T::places(&pattern()[start..start + size]),
         }
     }
 
     pub fn size(&self) -> usize {
-        self.bytes.len() - 2 * GUARD
+        self.places.len() - 2 * GUARD
     }
 
-    pub fn room(&self) -> &[u8] {
-        &self.bytes[GUARD..self.bytes.len() - GUARD]
+    pub fn room(&self) -> &[T] {
+        &self.places[GUARD..self.places.len() - GUARD]
     }
 
-    pub fn room_mut(&mut self) -> &mut [u8] {
-        let end = self.bytes.len() - GUARD;
-        &mut self.bytes[GUARD..end]
+    pub fn room_mut(&mut self) -> &mut [T] {
+        let end = self.places.len() - GUARD;
+        &mut self.places[GUARD..end]
     }
 
     /// Room and guards.
-    pub fn whole_mut(&mut self) -> &mut [u8] {
-        &mut self.bytes
+    pub fn whole_mut(&mut self) -> &mut [T] {
+        &mut self.places
     }
 
-    pub fn guards(&self) -> (&[u8], &[u8]) {
-        let end = self.bytes.len() - GUARD;
-        (&self.bytes[..GUARD], &self.bytes[end..])
+    pub fn guards(&self) -> (&[T], &[T]) {
+        let end = self.places.len() - GUARD;
+        (&self.places[..GUARD], &self.places[end..])
     }
 }

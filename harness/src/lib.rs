@@ -1,10 +1,11 @@
 //! The product beside the second program. A comparison goes through these steps, one file each:
 //!
-//! 1. [`guarded`] lends a buffer with guard bytes, [`program`] calls what is tried with it;
-//! 2. [`compare`] holds the answers and every byte against the second program;
+//! 1. [`guarded`] lends a buffer with guard bytes, [`runs`] four runs; [`program`] calls what is tried with them;
+//! 2. [`compare`] holds the answers and every byte against the second program, [`columns`] every place of the runs;
 //! 3. [`statement`] takes a report apart and has the four sentences that hold of it, [`rearrange`] tries demand 3;
 //! 4. [`run`] does so for many books; [`shrink`] and [`plain`] make a book with a difference small and [`text`] prints it.
 
+pub mod columns;
 pub mod compare;
 pub mod draw;
 pub mod fields;
@@ -15,6 +16,7 @@ pub mod product;
 pub mod program;
 pub mod rearrange;
 pub mod run;
+pub mod runs;
 pub mod shrink;
 pub mod statement;
 pub mod text;

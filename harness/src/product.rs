@@ -11,10 +11,57 @@ pub struct Answer {
 
 extern "C" {
     fn frundavel_allot(book: *const u8, size: usize, report: *mut u8, room: usize) -> Answer;
+
+    /// Of an archive of its own, for the comparison of both layouts.
+    fn frundavel_allot_in_rows(
+        book: *const u8,
+        size: usize,
+        report: *mut u8,
+        room: usize,
+    ) -> Answer;
+
+    fn frundavel_columns(
+        book: *const u8,
+        size: usize,
+        standings: *mut u8,
+        standings_places: usize,
+        offered: *mut u64,
+        offered_places: usize,
+        pending: *mut u64,
+        pending_places: usize,
+        offsets: *mut u64,
+        offsets_places: usize,
+    ) -> Answer;
 }
 
 /// Judges a book and writes the report at the front of the lent buffer.
 pub fn allot(book: &[u8], report: &mut [u8]) -> Answer {
     // SAFETY: both parts are valid for their lengths, and a mutable one overlaps no other.
     unsafe { frundavel_allot(book.as_ptr(), book.len(), report.as_mut_ptr(), report.len()) }
+}
+
+/// The same, worked in rows.
+pub fn allot_in_rows(book: &[u8], report: &mut [u8]) -> Answer {
+    // SAFETY: as above.
+    unsafe { frundavel_allot_in_rows(book.as_ptr(), book.len(), report.as_mut_ptr(), report.len()) }
+}
+
+/// Judges a book and fills the front of the lent runs: standings, and lots offered, pending and offset.
+pub fn columns(book: &[u8], standings: &mut [u8], lots: [&mut [u64]; 3]) -> Answer {
+    let [offered, pending, offsets] = lots;
+    // SAFETY: as above.
+    unsafe {
+        frundavel_columns(
+            book.as_ptr(),
+            book.len(),
+            standings.as_mut_ptr(),
+            standings.len(),
+            offered.as_mut_ptr(),
+            offered.len(),
+            pending.as_mut_ptr(),
+            pending.len(),
+            offsets.as_mut_ptr(),
+            offsets.len(),
+        )
+    }
 }

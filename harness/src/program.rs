@@ -1,9 +1,10 @@
-//! What is tried: the product, or a wrong program in the tests.
+//! What is tried: the product's calls, or wrong programs in the tests.
 
 use std::hint::black_box;
 
 use crate::guarded::Lent;
 use crate::product::Answer;
+use crate::runs::Runs;
 
 /// A program that answers a book once for each lent buffer.
 pub trait Program {
@@ -22,4 +23,28 @@ impl<F: FnMut(&[u8], &mut [u8]) -> Answer> Program for F {
         });
         Ok(answers.collect())
     }
+}
+
+/// A program that answers a book in columns, once for each four runs that are lent.
+pub trait Viewer {
+    fn view(&mut self, book: &[u8], lent: &mut [Runs]) -> Result<Vec<Answer>, String>;
+}
+
+/// A plain call for columns is a viewer: a book, standings, and lots offered, pending and offset.
+impl<F: FnMut(&[u8], &mut [u8], [&mut [u64]; 3]) -> Answer> Viewer for F {
+    fn view(&mut self, book: &[u8], lent: &mut [Runs]) -> Result<Vec<Answer>, String> {
+        let answers = lent.iter_mut().map(|runs| {
+            let (standings, lots) = runs.rooms_mut();
+            let answer = self(book, standings, lots);
+            black_box(runs);
+            answer
+        });
+        Ok(answers.collect())
+    }
+}
+
+/// Both calls.
+pub struct Tried {
+    pub program: Box<dyn Program>,
+    pub viewer: Box<dyn Viewer>,
 }

@@ -7,7 +7,7 @@ use std::time::{Duration, Instant};
 use second::make::{self, Made};
 
 use crate::compare::{compare, Counts, Difference};
-use crate::program::Program;
+use crate::program::Tried;
 use crate::shrink::shrink;
 
 /// Which books.
@@ -35,8 +35,8 @@ pub struct Outcome {
     pub time: Duration,
 }
 
-/// Makes the program that one thread tries.
-pub type Start<'a> = &'a (dyn Fn() -> Box<dyn Program> + Sync);
+/// Makes the calls that one thread tries.
+pub type Start<'a> = &'a (dyn Fn() -> Tried + Sync);
 
 /// What the threads tell one another.
 struct Shared {
@@ -85,7 +85,7 @@ fn summed(worked: Vec<(Counts, Option<Found>)>) -> (Counts, Option<Found>) {
 
 /// One thread's books: every so many-th, up to its own or another's first difference.
 fn work(plan: Plan, nth: u64, start: Start, shared: &Shared) -> (Counts, Option<Found>) {
-    let mut program = start();
+    let mut tried = start();
     let mut counts = Counts::default();
     let indexes = (nth..plan.count).step_by(plan.threads as usize);
     for index in indexes.map(|at| plan.from.wrapping_add(at)) {
@@ -94,7 +94,7 @@ fn work(plan: Plan, nth: u64, start: Start, shared: &Shared) -> (Counts, Option<
         }
         let made = make::book(plan.seed, index);
         let compared = compare(
-            &mut *program,
+            &mut tried,
             &made.bytes,
             variety(plan.seed, index),
             &mut counts,
@@ -124,11 +124,11 @@ fn variety(seed: u64, index: u64) -> u64 {
 const VARIETIES: u64 = 6;
 
 /// A small book with a difference of the same check, and that difference.
-pub fn shrunk(found: &Found, program: &mut dyn Program) -> (Vec<u8>, Difference) {
+pub fn shrunk(found: &Found, tried: &mut Tried) -> (Vec<u8>, Difference) {
     let mut last = found.difference.clone();
     let small = shrink(&found.made.bytes, &mut |bytes| {
         let shown = (0..VARIETIES).find_map(|variety| {
-            let other = compare(program, bytes, variety, &mut Counts::default()).err()?;
+            let other = compare(tried, bytes, variety, &mut Counts::default()).err()?;
             (other.check == found.difference.check).then_some(other)
         });
         shown.map(|other| last = other).is_some()

@@ -4,9 +4,10 @@ use std::io::{self, Read, Write};
 use std::path::{Path, PathBuf};
 use std::process::{Child, ChildStdin, ChildStdout, Command, Stdio};
 
-use crate::guarded::{Lent, GUARD};
+use crate::guarded::{Lent, Place, GUARD};
 use crate::product::Answer;
-use crate::program::Program;
+use crate::program::{Program, Viewer};
+use crate::runs::Runs;
 
 pub struct Through {
     file: PathBuf,
@@ -28,7 +29,7 @@ impl Through {
         }
     }
 
-    fn ask(&mut self, book: &[u8], lent: &mut [Lent]) -> io::Result<Vec<Answer>> {
+    fn ask<T: Asked>(&mut self, book: &[u8], lent: &mut [T]) -> io::Result<Vec<Answer>> {
         if self.running.is_none() {
             self.running = Some(Running::start(&self.file)?);
         }
@@ -36,15 +37,89 @@ impl Through {
         running.input.write_all(&question(book, lent))?;
         lent.iter_mut().map(|one| running.answer(one)).collect()
     }
-}
 
-impl Program for Through {
-    fn call(&mut self, book: &[u8], lent: &mut [Lent]) -> Result<Vec<Answer>, String> {
+    fn asked<T: Asked>(&mut self, book: &[u8], lent: &mut [T]) -> Result<Vec<Answer>, String> {
         self.ask(book, lent).map_err(|error| {
             let ended = self.running.take().map(Running::end);
             let status = ended.map_or("not started".to_string(), |ended| format!("{ended:?}"));
             format!("{}: {error} ({status})", self.file.display())
         })
+    }
+}
+
+impl Program for Through {
+    fn call(&mut self, book: &[u8], lent: &mut [Lent]) -> Result<Vec<Answer>, String> {
+        self.asked(book, lent)
+    }
+}
+
+impl Viewer for Through {
+    fn view(&mut self, book: &[u8], lent: &mut [Runs]) -> Result<Vec<Answer>, String> {
+        self.asked(book, lent)
+    }
+}
+
+/// What goes over the pipe and comes back, as `emulated/lend.c` has it.
+trait Sent {
+    fn put(&mut self, bytes: &mut Vec<u8>);
+
+    fn take(&mut self, from: &mut impl Read) -> io::Result<()>;
+}
+
+/// What is lent with a question, and the call that is asked for.
+trait Asked: Sent {
+    const CALL: u64;
+}
+
+impl Asked for Lent {
+    const CALL: u64 = 0;
+}
+
+impl Asked for Runs {
+    const CALL: u64 = 1;
+}
+
+impl Sent for Lent {
+    fn put(&mut self, bytes: &mut Vec<u8>) {
+        put_sizes(self, bytes);
+        bytes.extend_from_slice(self.whole_mut());
+    }
+
+    fn take(&mut self, from: &mut impl Read) -> io::Result<()> {
+        from.read_exact(self.whole_mut())
+    }
+}
+
+impl Sent for Lent<u64> {
+    fn put(&mut self, bytes: &mut Vec<u8>) {
+        put_sizes(self, bytes);
+        let places = self.whole_mut().iter();
+        bytes.extend(places.flat_map(|place| place.to_le_bytes()));
+    }
+
+    fn take(&mut self, from: &mut impl Read) -> io::Result<()> {
+        let mut bytes = vec![0; self.whole_mut().len() * u64::BYTES];
+        from.read_exact(&mut bytes)?;
+        self.whole_mut().copy_from_slice(&u64::places(&bytes));
+        Ok(())
+    }
+}
+
+impl Sent for Runs {
+    fn put(&mut self, bytes: &mut Vec<u8>) {
+        self.lots.iter_mut().for_each(|run| run.put(bytes));
+        self.standings.put(bytes);
+    }
+
+    fn take(&mut self, from: &mut impl Read) -> io::Result<()> {
+        self.lots.iter_mut().try_for_each(|run| run.take(from))?;
+        self.standings.take(from)
+    }
+}
+
+fn put_sizes<T: Place>(lent: &mut Lent<T>, bytes: &mut Vec<u8>) {
+    for number in [lent.size() + 2 * GUARD, GUARD, lent.size()] {
+        bytes.extend((number as u64).to_le_bytes());
     }
 }
 
@@ -66,10 +141,10 @@ impl Running {
         })
     }
 
-    fn answer(&mut self, lent: &mut Lent) -> io::Result<Answer> {
+    fn answer(&mut self, lent: &mut impl Asked) -> io::Result<Answer> {
         let mut words = [0; 24];
         self.output.read_exact(&mut words)?;
-        self.output.read_exact(lent.whole_mut())?;
+        lent.take(&mut self.output)?;
         let word = |at: usize| u64::from_le_bytes(words[at..at + 8].try_into().expect("8 bytes"));
         Ok(Answer {
             number: word(0),
@@ -94,17 +169,12 @@ impl Drop for Through {
     }
 }
 
-fn question(book: &[u8], lent: &mut [Lent]) -> Vec<u8> {
+fn question<T: Asked>(book: &[u8], lent: &mut [T]) -> Vec<u8> {
     let mut bytes = Vec::new();
-    let number = |bytes: &mut Vec<u8>, value: usize| bytes.extend((value as u64).to_le_bytes());
-    number(&mut bytes, book.len());
-    number(&mut bytes, lent.len());
-    bytes.extend_from_slice(book);
-    for one in lent {
-        number(&mut bytes, one.size() + 2 * GUARD);
-        number(&mut bytes, GUARD);
-        number(&mut bytes, one.size());
-        bytes.extend_from_slice(one.whole_mut());
+    for number in [T::CALL, book.len() as u64, lent.len() as u64] {
+        bytes.extend(number.to_le_bytes());
     }
+    bytes.extend_from_slice(book);
+    lent.iter_mut().for_each(|one| one.put(&mut bytes));
     bytes
 }

@@ -1,6 +1,6 @@
 /* The stack that the product's calls use, through their C symbols. A book comes on standard input; the stack below the caller's frame is
    painted, the call made, and the deepest byte that lost its paint looked for. Printed: that many bytes for frundavel_allot, as many for
-   frundavel_reason of its answer, and the answer's number.
+   frundavel_reason of its answer and for frundavel_columns, and the answer's number.
 
    It needs no C library: it is linked with the archive alone, so that it can be run under an emulator too. */
 
@@ -9,13 +9,16 @@ typedef unsigned long size;
 
 struct answer { size number, place, length; };
 struct answer frundavel_allot(const byte *book, size count, byte *report, size room);
+struct answer frundavel_columns(const byte *book, size count, byte *standings, size s, size *offered, size f, size *pending, size p,
+                                size *offsets, size o);
 struct answer frundavel_reason(size number, size place, const byte *book, size count, byte *words, size room);
 
 enum { READ = 0, WRITE = 1, EXIT = 60 };
-enum { MOST_BOOK = 1 << 20, ROOM = 1 << 16, DEPTH = 1 << 18, GAP = 256, PAINT = 0xa5 };
+enum { MOST_BOOK = 1 << 20, ROOM = 1 << 16, PLACES = 256, DEPTH = 1 << 18, GAP = 256, PAINT = 0xa5 };
 
 static byte book[MOST_BOOK];
-static byte report[ROOM];
+static byte report[ROOM], standings[PLACES];
+static size offered[PLACES], pending[PLACES], offsets[PLACES];
 
 static long call(long number, long one, const void *two, size three)
 {
@@ -105,14 +108,20 @@ void measure(void)
     used = deepest(&frame);
     paint(&frame);
     const struct answer said = frundavel_reason(answer.number, answer.place, book, count, report, ROOM);
+    const size words = deepest(&frame);
+    paint(&frame);
+    const struct answer shown = frundavel_columns(book, count, standings, PLACES, offered, PLACES, pending, PLACES, offsets, PLACES);
+    const size columns = deepest(&frame);
     count = put(line, used);
     line[count++] = ' ';
-    count += put(line + count, deepest(&frame));
+    count += put(line + count, words);
+    line[count++] = ' ';
+    count += put(line + count, columns);
     line[count++] = ' ';
     count += put(line + count, answer.number);
     line[count++] = '\n';
     call(WRITE, 1, line, count);
-    call(EXIT, got < 0 || said.number != 0, 0, 0);
+    call(EXIT, got < 0 || said.number != 0 || shown.number != answer.number, 0, 0);
 }
 
 __asm__(".globl _start\n_start: xor %ebp, %ebp\n and $-16, %rsp\n call measure\n hlt\n");

@@ -4,15 +4,16 @@ mod common;
 
 use std::path::Path;
 
-use common::{answered_with, right, ties_by_row_order, values, with_values};
+use common::{answered_with, right, right_view, ties_by_row_order, values, with_values};
 use harness::compare::{Check, Counts, Difference};
 use harness::fields::{fields, groups, value};
 use harness::product::Answer;
-use harness::program::Program;
+use harness::program::Tried;
 use harness::run::{run, shrunk, Outcome, Plan};
 use harness::through::Through;
 
 type Call = fn(&[u8], &mut [u8]) -> Answer;
+type View = fn(&[u8], &mut [u8], [&mut [u64]; 3]) -> Answer;
 
 const PLAN: Plan = Plan {
     count: 20_000,
@@ -21,19 +22,30 @@ const PLAN: Plan = Plan {
     threads: 2,
 };
 
-fn compared(plan: Plan, call: Call) -> Outcome {
-    run(
-        plan,
-        &move || Box::new(call) as Box<dyn Program>,
-        &mut |_| (),
-    )
+fn tried(call: Call, view: View) -> Tried {
+    Tried {
+        program: Box::new(call),
+        viewer: Box::new(view),
+    }
+}
+
+fn compared(plan: Plan, call: Call, view: View) -> Outcome {
+    run(plan, &move || tried(call, view), &mut |_| ())
 }
 
 /// Finds a wrong program and answers the small book with its difference.
 fn found(call: Call, check: Check, most_bytes: usize) -> (Vec<u8>, Difference) {
-    let first = compared(PLAN, call).first.expect("a difference");
+    found_in(call, right_view, check, most_bytes)
+}
+
+fn found_view(view: View, check: Check, most_bytes: usize) -> (Vec<u8>, Difference) {
+    found_in(right, view, check, most_bytes)
+}
+
+fn found_in(call: Call, view: View, check: Check, most_bytes: usize) -> (Vec<u8>, Difference) {
+    let first = compared(PLAN, call, view).first.expect("a difference");
     assert_eq!(first.difference.check, check, "{}", first.difference.told);
-    let (small, difference) = shrunk(&first, &mut { call });
+    let (small, difference) = shrunk(&first, &mut tried(call, view));
     let text = harness::text::difference(&difference, &small);
     println!(
         "index {}, of {} bytes\n{text}",
@@ -47,7 +59,7 @@ fn found(call: Call, check: Check, most_bytes: usize) -> (Vec<u8>, Difference) {
 
 #[test]
 fn the_right_program_has_no_difference_and_meets_every_check() {
-    let outcome = compared(PLAN, right);
+    let outcome = compared(PLAN, right, right_view);
     assert!(outcome.first.is_none());
     let Counts {
         books,
@@ -80,7 +92,7 @@ fn a_byte_written_after_the_report_is_found() {
     let (small, difference) = found(wrong, Check::Buffer, 40);
     assert!(groups(&small).is_empty(), "terms and Z show it");
     assert!(
-        difference.told.contains("first differing byte at 8:"),
+        difference.told.contains("first difference at 8:"),
         "{}",
         difference.told
     );
@@ -128,8 +140,10 @@ fn an_invented_residue_is_found() {
             })
         })
     }
-    let first = compared(PLAN, wrong).first.expect("a difference");
-    let (small, _) = shrunk(&first, &mut { wrong });
+    let first = compared(PLAN, wrong, right_view)
+        .first
+        .expect("a difference");
+    let (small, _) = shrunk(&first, &mut tried(wrong, right_view));
     assert_eq!(groups(&small).len(), 1, "one pending customer shows it");
     assert!(small.len() <= 80, "{} bytes left", small.len());
 }
@@ -171,7 +185,7 @@ fn a_place_that_is_one_off_is_found() {
 fn the_first_difference_is_the_same_with_any_number_of_threads() {
     let index = |threads| {
         let plan = Plan { threads, ..PLAN };
-        compared(plan, ties_by_row_order)
+        compared(plan, ties_by_row_order, right_view)
             .first
             .expect("a difference")
             .index
@@ -182,12 +196,101 @@ fn the_first_difference_is_the_same_with_any_number_of_threads() {
 
 #[test]
 fn a_program_that_dies_is_a_difference_and_no_end_of_the_run() {
-    let start = || Box::new(Through::new(Path::new("false"))) as Box<dyn Program>;
+    let dead = || Through::new(Path::new("false"));
+    let start = || Tried {
+        program: Box::new(dead()),
+        viewer: Box::new(dead()),
+    };
     let first = run(Plan { count: 5, ..PLAN }, &start, &mut |_| ())
         .first
         .expect("a difference");
     assert_eq!((first.index, first.difference.check), (0, Check::Answer));
     assert_eq!(first.difference.call.got, None);
-    let (small, _) = shrunk(&first, &mut *start());
+    let (small, _) = shrunk(&first, &mut start());
     assert!(small.is_empty());
+}
+
+#[test]
+fn offsets_in_place_of_pending_are_found() {
+    fn wrong(book: &[u8], standings: &mut [u8], lots: [&mut [u64]; 3]) -> Answer {
+        let [offered, pending, offsets] = lots;
+        let answer = right_view(book, standings, [offered, pending, offsets]);
+        let count = answer.length as usize;
+        pending[..count].copy_from_slice(&offsets[..count]);
+        answer
+    }
+    let (small, difference) = found_view(wrong, Check::Runs, 80);
+    assert_eq!(groups(&small).len(), 1, "one pending customer shows it");
+    assert!(difference.told.contains("pending, first difference at 0"));
+}
+
+#[test]
+fn a_place_too_far_is_found() {
+    fn wrong(book: &[u8], standings: &mut [u8], lots: [&mut [u64]; 3]) -> Answer {
+        let [offered, pending, offsets] = lots;
+        let answer = right_view(book, standings, [offered, pending, offsets]);
+        if let (0, Some(place)) = (answer.number, offsets.get_mut(answer.length as usize)) {
+            *place = 0;
+        }
+        answer
+    }
+    let (small, difference) = found_view(wrong, Check::Runs, 40);
+    assert!(groups(&small).is_empty(), "terms and Z show it");
+    assert!(difference.told.contains("offsets, first difference at 0"));
+}
+
+#[test]
+fn a_run_altered_on_refusal_is_found() {
+    fn wrong(book: &[u8], standings: &mut [u8], lots: [&mut [u64]; 3]) -> Answer {
+        if let Some(first) = standings.first_mut() {
+            *first = b'N';
+        }
+        right_view(book, standings, lots)
+    }
+    let (small, _) = found_view(wrong, Check::Runs, 0);
+    assert!(small.is_empty(), "the empty book is refused");
+}
+
+#[test]
+fn another_order_than_the_books_is_found() {
+    fn wrong(book: &[u8], standings: &mut [u8], lots: [&mut [u64]; 3]) -> Answer {
+        let [offered, pending, offsets] = lots;
+        let answer = right_view(book, standings, [offered, pending, offsets]);
+        let count = answer.length as usize;
+        offered[..count].reverse();
+        answer
+    }
+    let (small, _) = found_view(wrong, Check::Runs, 100);
+    assert_eq!(groups(&small).len(), 2);
+}
+
+#[test]
+fn a_run_whose_places_are_not_counted_is_found() {
+    fn wrong(book: &[u8], standings: &mut [u8], lots: [&mut [u64]; 3]) -> Answer {
+        let [offered, pending, offsets] = lots;
+        let mut more = vec![0; 300];
+        let answer = right_view(book, standings, [&mut more, pending, offsets]);
+        if let (0, Some(room)) = (answer.number, offered.get_mut(..answer.length as usize)) {
+            room.copy_from_slice(&more[..answer.length as usize]);
+        }
+        answer
+    }
+    let (_, difference) = found_view(wrong, Check::Columns, 70);
+    assert_eq!(difference.call.want.number, 11);
+}
+
+#[test]
+fn places_written_around_a_run_are_found() {
+    fn wrong(book: &[u8], standings: &mut [u8], lots: [&mut [u64]; 3]) -> Answer {
+        let end = lots[1].as_mut_ptr_range().end;
+        // SAFETY: none in Rust's sense. It is what a wrong C program does; a guard place stands there.
+        unsafe { *end = 7 };
+        right_view(book, standings, lots)
+    }
+    let (_, difference) = found_view(wrong, Check::RunGuards, 0);
+    assert!(
+        difference.told.contains("pending, after"),
+        "{}",
+        difference.told
+    );
 }

@@ -8,7 +8,7 @@ use std::time::{Duration, Instant};
 
 use harness::compare::{Check, Counts};
 use harness::product;
-use harness::program::Program;
+use harness::program::Tried;
 use harness::run::{run, shrunk, Found, Outcome, Plan, Start};
 use harness::text;
 use harness::through::Through;
@@ -28,11 +28,15 @@ fn main() -> ExitCode {
         return ExitCode::from(2);
     };
     let through = words.through.clone();
-    let start = move || -> Box<dyn Program> {
-        match &through {
-            Some(file) => Box::new(Through::new(file)),
-            None => Box::new(product::allot),
-        }
+    let start = move || match &through {
+        Some(file) => Tried {
+            program: Box::new(Through::new(file)),
+            viewer: Box::new(Through::new(file)),
+        },
+        None => Tried {
+            program: Box::new(product::allot),
+            viewer: Box::new(product::columns),
+        },
     };
     if words.through.is_none() && cfg!(not(linked)) {
         eprintln!(
@@ -58,7 +62,7 @@ fn compared(words: &Words, start: Start) -> io::Result<bool> {
     println!("{}", summary(words.plan, &outcome));
     let (passed, failed) = match &outcome.first {
         Some(found) => {
-            show(words, found, &mut *start())?;
+            show(words, found, &mut start())?;
             // A run that was cut short has passed nothing.
             (0, 1)
         }
@@ -111,7 +115,7 @@ fn tally(counts: &Counts) -> (u32, u32) {
 }
 
 /// Prints a difference in full and shrunk, and writes the small book to a file.
-fn show(words: &Words, found: &Found, program: &mut dyn Program) -> io::Result<()> {
+fn show(words: &Words, found: &Found, tried: &mut Tried) -> io::Result<()> {
     let seed = words.plan.seed;
     let (family, kind) = (found.made.family, found.made.kind);
     println!(
@@ -119,7 +123,7 @@ fn show(words: &Words, found: &Found, program: &mut dyn Program) -> io::Result<(
         found.index
     );
     println!("{}", text::difference(&found.difference, &found.made.bytes));
-    let (small, difference) = shrunk(found, program);
+    let (small, difference) = shrunk(found, tried);
     println!("SHRUNK\n{}", text::difference(&difference, &small));
     let name = format!("difference-{seed}-{}.book", found.index);
     let file = Path::new(&words.folder).join(name);

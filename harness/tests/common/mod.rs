@@ -1,17 +1,26 @@
 //! What several test files need: a right program, and books to be wrong about.
 #![allow(dead_code, reason = "each test file uses its own part")]
 
+use harness::compare::answer_of;
 use harness::fields::{fields, value};
 use harness::product::Answer;
+use second::columns::Runs;
 
 /// The second program in the form of a program that is tried.
 pub fn right(book: &[u8], report: &mut [u8]) -> Answer {
-    let (number, place, length) = second::allot_into(book, report);
-    Answer {
-        number,
-        place,
-        length,
-    }
+    answer_of(second::allot_into(book, report))
+}
+
+/// The second program's columns in the form of a viewer that is tried.
+pub fn right_view(book: &[u8], standings: &mut [u8], lots: [&mut [u64]; 3]) -> Answer {
+    let [offered, pending, offsets] = lots;
+    let runs = Runs {
+        standings,
+        offered,
+        pending,
+        offsets,
+    };
+    answer_of(second::columns_into(book, runs))
 }
 
 /// What the second program writes of an accepted book.

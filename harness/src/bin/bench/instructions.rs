@@ -14,26 +14,30 @@ const MANY: u64 = 12;
 /// Prints instructions a call and their ratio for each book, or says what failed.
 pub fn table() -> Result<(), String> {
     println!(
-        "{:26} {:>10} {:>10}  ratio",
-        "instructions", "product", "second"
+        "{:26} {:>10} {:>10}  ratio {:>10}",
+        "instructions", "product", "second", "in rows"
     );
     for book in books::all() {
         let product = counted(Program::Product, &book)?;
         let second = counted(Program::Second, &book)?;
+        let rows = counted(Program::InRows, &book)?;
         let ratio = product as f64 / second as f64;
-        println!("{:26} {product:>10} {second:>10} {ratio:>6.2}", book.name);
+        println!(
+            "{:26} {product:>10} {second:>10} {ratio:>6.2} {rows:>10}",
+            book.name
+        );
     }
     Ok(())
 }
 
 /// Runs one program on one book, as the words say: this is what valgrind runs.
 pub fn repeat(program: &str, book: &str, count: &str) -> Result<(), String> {
-    let mut known = Program::BOTH.into_iter();
+    let mut known = Program::ALL.into_iter();
     let program = known.find(|one| one.name() == program);
     let book = books::all().into_iter().find(|one| one.name == book);
     let (Some(program), Some(book), Ok(count)) = (program, book, count.parse::<u64>()) else {
         return Err(
-            "one PROGRAM BOOK COUNT: product or second, a book of the table, a number".into(),
+            "one PROGRAM BOOK COUNT: product, second or rows, a book of the table, a number".into(),
         );
     };
     let mut report = [0; ROOM];

@@ -1,7 +1,7 @@
 //! The benchmark: the product beside the second program, on the same books and in one process.
 //!
 //! `bench` prints times, growth and stack and says which bars are met; its status is 1 where one is missed.
-//! `bench instructions` counts instructions by valgrind. `bench one PROGRAM BOOK COUNT` is what valgrind runs. `bench books FOLDER` writes
+//! `bench layouts` prints the product's times and stack in columns and in rows alone. `bench instructions` counts instructions by valgrind. `bench one PROGRAM BOOK COUNT` is what valgrind runs. `bench books FOLDER` writes
 //! the books to a folder, for the gate's test of the stack.
 
 mod books;
@@ -45,9 +45,13 @@ fn main() -> ExitCode {
             "the product is an x86-64 archive, and this program is not: nothing is measured (see harness/native)".into(),
         ),
         [] => everything(),
+        ["layouts"] => agreed(&books::all()).map(|()| layouts(&books::all())),
         ["instructions"] => instructions::table(),
         ["one", program, book, count] => instructions::repeat(program, book, count),
-        _ => Err("no words, or: instructions, or: one PROGRAM BOOK COUNT, or: books FOLDER".into()),
+        _ => Err(
+            "no words, or: layouts, or: instructions, or: one PROGRAM BOOK COUNT, or: books FOLDER"
+                .into(),
+        ),
     };
     match done {
         Ok(()) => ExitCode::SUCCESS,
@@ -73,13 +77,8 @@ fn written(folder: &str) -> Result<(), String> {
 fn everything() -> Result<(), String> {
     let books = books::all();
     let growing = books::growing();
-    if let Some(book) = books
-        .iter()
-        .chain(&growing)
-        .find(|book| !programs::agree(&book.bytes))
-    {
-        return Err(format!("the programs differ on the book {}", book.name));
-    }
+    agreed(&books)?;
+    agreed(&growing)?;
     if !stack::finds_what_is_known() {
         return Err("the measure of the stack does not find what is known".into());
     }
@@ -90,10 +89,18 @@ fn everything() -> Result<(), String> {
         );
     }
     let met = [times(&books), growth(&growing), stacks(&books)];
+    layouts(&books);
     if met.contains(&false) {
         return Err("a bar is missed".into());
     }
     Ok(())
+}
+
+fn agreed(books: &[Book]) -> Result<(), String> {
+    let differs = books.iter().find(|book| !programs::agree(&book.bytes));
+    differs.map_or(Ok(()), |book| {
+        Err(format!("the programs differ on the book {}", book.name))
+    })
 }
 
 /// Prints times and ratios; answers whether the bars are met.
@@ -101,7 +108,7 @@ fn times(books: &[Book]) -> bool {
     println!("Nanoseconds a call: median (10th to 90th percentile)");
     let mut met = true;
     for book in books {
-        let [product, second] = timing::measure(&book.bytes);
+        let [product, second] = timing::measure(Program::BOTH, &book.bytes);
         let ratio = product.median / second.median;
         let bar = BARS.iter().find(|bar| bar.0 == book.name).map(|bar| bar.1);
         let (size, product, second) = (book.bytes.len(), shown(product), shown(second));
@@ -135,7 +142,8 @@ fn growth(books: &[Book]) -> bool {
     println!("Growth: nanoseconds a byte");
     let mut costs = Vec::new();
     for book in books {
-        let each = timing::measure(&book.bytes).map(|times| times.median / book.bytes.len() as f64);
+        let each = timing::measure(Program::BOTH, &book.bytes)
+            .map(|times| times.median / book.bytes.len() as f64);
         println!(
             "{:26} product {:.3}  second {:.3}",
             book.name, each[0], each[1]
@@ -166,4 +174,22 @@ fn stacks(books: &[Book]) -> bool {
         met &= within;
     }
     met
+}
+
+/// Prints the product, which works in columns, beside itself worked in rows.
+fn layouts(books: &[Book]) {
+    println!("Layouts: nanoseconds a call, and bytes of stack");
+    for book in books {
+        let [columns, rows] = timing::measure(Program::LAYOUTS, &book.bytes);
+        let stack = Program::LAYOUTS.map(|program| stack::used_by(program, &book.bytes));
+        println!(
+            "{:26} columns {}  rows {}  ratio {:.2}  stack {} and {}",
+            book.name,
+            shown(columns),
+            shown(rows),
+            columns.median / rows.median,
+            stack[0],
+            stack[1]
+        );
+    }
 }

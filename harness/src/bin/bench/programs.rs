@@ -1,4 +1,4 @@
-//! The two programs that are measured, called in the same way.
+//! The programs that are measured, called in the same way: the product, the second program, and the product worked in rows.
 
 /// More than any report takes.
 pub const ROOM: usize = 16_384;
@@ -7,35 +7,45 @@ pub const ROOM: usize = 16_384;
 pub enum Program {
     Product,
     Second,
+    InRows,
 }
 
+/// Two that are measured in turns.
+pub type Pair = [Program; 2];
+
 impl Program {
-    pub const BOTH: [Program; 2] = [Program::Product, Program::Second];
+    pub const BOTH: Pair = [Program::Product, Program::Second];
+    /// The product works in columns.
+    pub const LAYOUTS: Pair = [Program::Product, Program::InRows];
+    pub const ALL: [Program; 3] = [Program::Product, Program::Second, Program::InRows];
 
     pub fn name(self) -> &'static str {
         match self {
             Program::Product => "product",
             Program::Second => "second",
+            Program::InRows => "rows",
         }
     }
 
     /// One call: number, place and length.
     pub fn call(self, book: &[u8], report: &mut [u8]) -> (u64, u64, u64) {
         match self {
-            Program::Product => {
-                let answer = harness::product::allot(book, report);
-                (answer.number, answer.place, answer.length)
-            }
+            Program::Product => numbers(harness::product::allot(book, report)),
             Program::Second => second::allot_into(book, report),
+            Program::InRows => numbers(harness::product::allot_in_rows(book, report)),
         }
     }
 }
 
-/// Whether both give the same answer and leave the same bytes in the whole buffer.
+fn numbers(answer: harness::product::Answer) -> (u64, u64, u64) {
+    (answer.number, answer.place, answer.length)
+}
+
+/// Whether all give the same answer and leave the same bytes in the whole buffer.
 pub fn agree(book: &[u8]) -> bool {
-    let [product, second] = Program::BOTH.map(|program| {
+    let [product, others @ ..] = Program::ALL.map(|program| {
         let mut report = vec![0xa5; ROOM];
         (program.call(book, &mut report), report)
     });
-    product == second
+    others.iter().all(|other| *other == product)
 }

@@ -1,9 +1,9 @@
-//! Times of both programs on the same book, taken in turns in one run.
+//! Times of two programs on the same book, taken in turns in one run.
 
 use std::hint::black_box;
 use std::time::{Duration, Instant};
 
-use crate::programs::{Program, ROOM};
+use crate::programs::{Pair, Program, ROOM};
 
 const ROUNDS: usize = 1_001;
 const WARM_UP: Duration = Duration::from_millis(200);
@@ -18,15 +18,15 @@ pub struct Times {
     pub ninetieth: f64,
 }
 
-/// The product's times and the second program's.
-pub fn measure(book: &[u8]) -> [Times; 2] {
-    let calls = Program::BOTH.map(|program| calls_in_a_sample(program, book));
+/// The times of each of a pair.
+pub fn measure(pair: Pair, book: &[u8]) -> [Times; 2] {
+    let calls = pair.map(|program| calls_in_a_sample(program, book));
     let mut samples = [Vec::new(), Vec::new()];
     for round in 0..ROUNDS {
         // Who is first changes each round: neither always finds the other's traces in the caches.
         for turn in 0..2 {
             let which = (round + turn) % 2;
-            samples[which].push(sample(Program::BOTH[which], book, calls[which]));
+            samples[which].push(sample(pair[which], book, calls[which]));
         }
     }
     samples.map(times)
