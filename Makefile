@@ -22,6 +22,8 @@ MACHINE = $(shell uname -m)
 
 program = target/bin/allot
 archive = target/staticlib/libfrundavel.a
+# the call worked in rows, for the comparison of both layouts
+rows = target/staticlib/librows.a
 shared = target/lib/libfrundavel.so.$(VERSION)
 # what a build can depend on: not the wrong programs, definitions and contracts that the gate tries
 sources := crates.txt $(shell find crates \( -name must-fail -o -name wrong -o -name weakened \) -prune -o -type f -print)
@@ -74,13 +76,13 @@ check:
 	.ci/run
 
 # A machine that cannot link the archive asks the product under the emulator.
-compare: $(archive)
+compare: $(archive) $(rows)
 	$(need-cargo)
 	$(need-cc)
 	if [ "$$(uname -m)" = x86_64 ]; then $(cargo) --bin compare -- $(COUNT) $(SEED) --folder target; \
 	else harness/emulated/make && $(cargo) --bin compare -- $(COUNT) $(SEED) --folder target --through target/emulated/run; fi
 
-bench: $(archive)
+bench: $(archive) $(rows)
 	$(need-cargo)
 	$(need-cc)
 	if [ "$$(uname -m)" = x86_64 ]; then $(cargo) --bin bench -- $(BENCH); \

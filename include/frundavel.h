@@ -1,9 +1,10 @@
 /*
  * frundavel.h - the forced offsetting allotment, for C99 and C++.
  *
- * frundavel_allot: a book and a lent buffer in; a number, a place and a length out. frundavel_reason: the words for a refusal. The rules,
- * with worked examples, are in docs/RULES.md of the source tree. Every byte that a call writes, and every answer that it gives, is proved
- * to be what the definitions (crates/rules/specs) say; docs/ASSUMPTIONS.md says what that rests on.
+ * frundavel_allot: a book and a lent buffer in; a number, a place and a length out. frundavel_columns: the
+ * same for a viewer that reads column by column. frundavel_reason: the words for a refusal. The rules, with worked examples, are in
+ * docs/RULES.md of the source tree. Every byte and number that a call writes, and every answer that it gives, is proved to be what the
+ * definitions (crates/rules/specs, crates/columns/specs) say; docs/ASSUMPTIONS.md says what that rests on.
  *
  * Link with -lfrundavel: libfrundavel.so or libfrundavel.a. They are for x86-64 Linux only today. libfrundavel.so needs the GNU C library,
  * 2.14 or newer.
@@ -44,6 +45,9 @@ extern "C" {
 /* A room that is enough for the words of every refusal: a call of frundavel_reason with it never answers 11 (proved). */
 #define FRUNDAVEL_WORDS 128
 
+/* A book has at most so many customers: runs of so many places are enough for every book. */
+#define FRUNDAVEL_MOST_CUSTOMERS 256
+
 /* The numbers of an answer. The table below says when each is given. */
 enum frundavel_number {
     FRUNDAVEL_ACCEPTED = 0,
@@ -79,7 +83,8 @@ enum frundavel_number {
  *        9  the customer's opening trades on the side of its net position   its C tag
  *           sum to less than that position
  *       10  a C after 256 customers                                         that C tag
- *       11  the report is longer than the room                              the length needed: no place in the book
+ *       11  the report is longer than the room; of frundavel_columns,       the length needed, or the number of places: no place in
+ *           a run has fewer places than there are customers                 the book
  */
 typedef struct frundavel_answer {
     uint64_t number;
@@ -113,6 +118,28 @@ frundavel_answer frundavel_allot(const uint8_t *book, size_t size, uint8_t *repo
  *   the calling thread's stack (measured, and held by a test).
  */
 frundavel_answer frundavel_reason(uint64_t number, uint64_t place, const uint8_t *book, size_t size, uint8_t *words, size_t room);
+
+/*
+ * Judges the book as frundavel_allot does and, where it is accepted, puts its customers into four lent runs, column by column, in book
+ * order. Customer i stands at place i of each:
+ *
+ *   standings   one of the bytes P, 1, 2, 3, N
+ *   offered     the lots that it offers: its whole net position in a tier, else 0
+ *   pending     its lots pending as counted before the cascade, else 0
+ *   offsets     the lots that are offset
+ *
+ * - Accepted: number 0, place 0, and length is the number of customers. The first so many places of each run are filled, and the rest
+ *   of each is unaltered.
+ * - Number and place are those of the table. 11: a run has fewer places than there are customers; place is the number of places needed.
+ * - Refused: length 0, and no place of any run is altered.
+ * - Lots are at most 1,000,000. They are 64 bits wide as every number here is, so that a column can be summed up as it stands.
+ * - The runs must not overlap one another or the book, and must be good for so many places each. A null pointer with 0 places is an empty
+ *   run.
+ * - What is said above of memory, threads and the stack holds here too.
+ */
+frundavel_answer frundavel_columns(const uint8_t *book, size_t size, uint8_t *standings, size_t standings_places, uint64_t *offered,
+                                   size_t offered_places, uint64_t *pending, size_t pending_places, uint64_t *offsets,
+                                   size_t offsets_places);
 
 #ifdef __cplusplus
 }
