@@ -7,6 +7,7 @@ pub mod Refusals
 pub mod Forms
 pub mod Order
 pub mod Outcomes
+pub mod Nights
 pub mod Crowded
 pub mod Hold
 pub mod HoldCrowded

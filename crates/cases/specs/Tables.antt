@@ -39,12 +39,22 @@ gold = beforeV ++ term "V" "4.000"
 abbrev pub goldUp : List ℕ
 goldUp = terms "U" "400.00" "8.000" "8.000" "4.000"
 
--- trades: a price, a blank, lots
+-- trades whose value is written whole: a price, a blank, lots, a blank, the day, a blank, the time
+abbrev pub boughtAs : String → List ℕ
+boughtAs v = field "B" (bytes v)
+
+abbrev pub soldAs : String → List ℕ
+soldAs v = field "A" (bytes v)
+
+-- "document 01's cases take one day and time": a price, a blank, lots, and these
+abbrev pub made : List ℕ
+made = bytes " 20250115 1000"
+
 abbrev pub bought : String → List ℕ
-bought v = field "B" (bytes v)
+bought v = field "B" (bytes v ++ made)
 
 abbrev pub sold : String → List ℕ
-sold v = field "A" (bytes v)
+sold v = field "A" (bytes v ++ made)
 
 -- C, and what stands before K
 abbrev pub begins : List ℕ → List ℕ

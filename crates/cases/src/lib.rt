@@ -1,1 +1,1 @@
-// Document 01's cases, computed, in specs/; no code.
+// Document 01's cases and those of request [2], computed, in specs/; no code.

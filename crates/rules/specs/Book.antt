@@ -18,7 +18,8 @@ use Rattle.rules.specs.declared.Opening.the-variants.{Malformed as NoTra
 use Rattle.rules.specs.Refusal as refusal
 use Rattle.rules.specs.Limits.{longestBook, mostCustomers}
 use Rattle.rules.specs.Text.{is, bytes}
-use Rattle.rules.specs.Figures.{fen, lots, rate, priceForm, rateForm, heldForm, figureOf, openingOf}
+use Rattle.rules.specs.Figures.{fen, lots, rate, priceForm, rateForm, heldForm, figureOf}
+use Rattle.rules.specs.Opening.{openingOf, among}
 use Rattle.rules.specs.Codes.{isCode, same}
 use Rattle.rules.specs.Fields.{Field, Whole, Cut, fieldsOf}
 
@@ -112,7 +113,7 @@ abbrev pub held : Customer → Position → Customer
 held c p = record { code = c .code; position = p; trades = c .trades }
 
 abbrev pub traded : Customer → Trade → Customer
-traded c t = record { code = c .code; position = c .position; trades = t ∷ c .trades }
+traded c t = record { code = c .code; position = c .position; trades = among t (c .trades) }
 
 -- K, H, Q and the trades: they depend on the terms and on the customer's own fields alone
 unfoldable pub within : Terms → Group → ℕ → List ℕ → Step Group

@@ -1,4 +1,4 @@
--- docs/RULES.md, section 4. Document 01, "The book, field by field": what a figure is, and the value of a trade.
+-- docs/RULES.md, section 4. Document 01, "The book, field by field": what a figure is.
 -- Assumes nothing.
 use Prim.Native.Nat.{ℕ, zero, suc, _+_, _-_, _*_}
 use Prim.Native.Char.{Char, code}
@@ -12,10 +12,6 @@ use Rattle.rules.specs.declared.Rate.{Rate}
 use Rattle.rules.specs.declared.Form.{Form}
 use Rattle.rules.specs.declared.Figure.{Figure}
 use Rattle.rules.specs.declared.Figure.the-variants.{Value, Comma, Malformed}
-use Rattle.rules.specs.declared.Opening.{Opening}
-use Rattle.rules.specs.declared.Opening.the-variants.{Made}
-use Rattle.rules.specs.declared.Opening.the-variants.{Comma as CommaIn}
-use Rattle.rules.specs.declared.Opening.the-variants.{Malformed as NoTrade}
 use Rattle.rules.specs.Text.{is}
 
 -- "Prices are in fen, positions in lots and rates in thousandths of a percent, as figures of these forms"
@@ -96,23 +92,3 @@ inRange form n = leb (form .least) n && leb n (form .most)
 unfoldable pub figureOf : Form → List ℕ → Figure
 figureOf form v =
     cond (has "," v) Comma (cond (formed form v && inRange form (number form v)) (Value (number form v)) Malformed)
-
--- "B, A: bought to open, sold to open: a price, one blank (0x20), lots": the bytes up to the first blank, and those after it
-abbrev pub upToBlank : List ℕ → List ℕ
-upToBlank [] = []
-upToBlank (x ∷ xs) = cond (is " " x) [] (x ∷ upToBlank xs)
-
-abbrev pub afterBlank : List ℕ → List ℕ
-afterBlank [] = []
-afterBlank (x ∷ xs) = cond (is " " x) xs (afterBlank xs)
-
-abbrev pub tradeFrom : Bool → Figure → Figure → Opening
-tradeFrom bought (Value p) (Value n) = Made (record { bought = bought; price = fen p; lots = lots n })
-tradeFrom bought (Value p) Comma = NoTrade
-tradeFrom bought (Value p) Malformed = NoTrade
-tradeFrom bought Comma n = NoTrade
-tradeFrom bought Malformed n = NoTrade
-
-unfoldable pub openingOf : Bool → List ℕ → Opening
-openingOf bought v =
-    cond (has "," v) CommaIn (tradeFrom bought (figureOf priceForm (upToBlank v)) (figureOf tradedForm (afterBlank v)))

@@ -3,6 +3,8 @@ pub mod Text
 pub mod Refusal
 pub mod Limits
 pub mod Figures
+pub mod Stamp
+pub mod Opening
 pub mod Codes
 pub mod Fields
 pub mod Book

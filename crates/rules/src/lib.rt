@@ -1,4 +1,4 @@
-// The types of the paper: what document 01 names, and its limits; and "the smaller of", which it says of lots twice. The rules
+// The types of the paper: what document 01 and request [2] name, and the limits; and "the smaller of", which it says of lots twice. The rules
 // themselves are definitions, in specs/.
 pub mod refusal;
 pub mod tag;
@@ -13,6 +13,9 @@ pub struct Fen(pub u64);
 pub struct Lots(pub u64);
 
 pub struct Rate(pub u64);
+
+// When a trade was made: a number that orders trading days, and within one day its minutes.
+pub struct Stamp(pub u64);
 
 // What a figure says. The number is in the figure's own unit: fen, lots or thousandths of a percent.
 pub enum Figure {
@@ -46,11 +49,12 @@ pub struct Position {
     pub unfilled: Lots,
 }
 
-// An opening trade: bought or sold, its price and its lots.
+// An opening trade: bought or sold, its price, its lots and when it was made.
 pub struct Trade {
     pub bought: bool,
     pub price: Fen,
     pub lots: Lots,
+    pub stamp: Stamp,
 }
 
 // What the value of a B or an A says.
