@@ -13,8 +13,11 @@ use Rattle.rules.specs.declared.Figure.{Figure}
 use Rattle.rules.specs.declared.Figure.the-variants.{Value, Comma, Malformed}
 use Rattle.rules.specs.declared.Opening.the-variants.{Made}
 use Rattle.rules.specs.declared.Opening.the-variants.{Comma as CommaIn}
-use Rattle.rules.specs.Figures.{figureOf, openingOf, has, formed, inRange, number}
-use Rattle.rules.specs.Figures.{priceForm, tradedForm, upToBlank, afterBlank, tradeFrom, fen, lots}
+use Rattle.rules.specs.Figures.{figureOf, has, formed, inRange, number}
+use Rattle.rules.specs.Opening.{openingOf}
+use Rattle.rules.specs.Figures.{priceForm, tradedForm, fen, lots}
+use Rattle.rules.specs.Stamp.{stamp, stampOf}
+use Rattle.rules.specs.Opening.{upToBlank, afterBlank, tradeFrom}
 
 both : (a b : Bool) → (a && b) ≡ true → (a ≡ true) × (b ≡ true)
 both a b h = and-eq-true-iff a b .0 h
@@ -60,30 +63,46 @@ figure-within form v n h = let f = figure-read form v n h in (f .least, f .most)
 
 -- What a trade that was read says.
 
+-- the parts of its value behind the price, and behind the lots
+abbrev pub behindPrice : List ℕ → List ℕ
+behindPrice v = afterBlank v
+
+abbrev pub behindLots : List ℕ → List ℕ
+behindLots v = afterBlank (behindPrice v)
+
 pub record OpeningRead (bought : Bool) (v : List ℕ) (t : Trade) : Type 0 where
   pub no-comma : has "," v ≡ false
   pub price : figureOf priceForm (upToBlank v) ≡ Value (t .price .0)
-  pub lots : figureOf tradedForm (afterBlank v) ≡ Value (t .lots .0)
+  pub lots : figureOf tradedForm (upToBlank (behindPrice v)) ≡ Value (t .lots .0)
+  pub stamp : stampOf (upToBlank (behindLots v)) (afterBlank (behindLots v)) ≡ Value (t .stamp .0)
   pub side : t .bought ≡ bought
 
 parted :
-    (bought comma : Bool) (p n : Figure) (t : Trade) →
-    cond comma CommaIn (tradeFrom bought p n) ≡ Made t →
-    (comma ≡ false) × (p ≡ Value (t .price .0)) × (n ≡ Value (t .lots .0)) × (t .bought ≡ bought)
-parted bought true p n t h = absurd (differ (cc))
-parted bought false (Value p) (Value n) t h =
-    let e : record { bought = bought; price = fen p; lots = lots n } ≡ t = cc in
-    (refl, ap (λ (x : Trade). Value (x .price .0)) e, ap (λ (x : Trade). Value (x .lots .0)) e, ap (λ (x : Trade). x .bought) (sym e))
-parted bought false (Value p) Comma t h = absurd (differ (cc))
-parted bought false (Value p) Malformed t h = absurd (differ (cc))
-parted bought false Comma n t h = absurd (differ (cc))
-parted bought false Malformed n t h = absurd (differ (cc))
+    (bought comma : Bool) (p n d : Figure) (t : Trade) →
+    cond comma CommaIn (tradeFrom bought p n d) ≡ Made t →
+    (comma ≡ false) × (p ≡ Value (t .price .0)) × (n ≡ Value (t .lots .0)) × (d ≡ Value (t .stamp .0)) × (t .bought ≡ bought)
+parted bought true p n d t h = absurd (differ (cc))
+parted bought false (Value p) (Value n) (Value d) t h =
+    let e : record { bought = bought; price = fen p; lots = lots n; stamp = stamp d } ≡ t = cc in (
+      refl,
+      ap (λ (x : Trade). Value (x .price .0)) e,
+      ap (λ (x : Trade). Value (x .lots .0)) e,
+      ap (λ (x : Trade). Value (x .stamp .0)) e,
+      ap (λ (x : Trade). x .bought) (sym e),
+    )
+parted bought false (Value p) (Value n) Comma t h = absurd (differ (cc))
+parted bought false (Value p) (Value n) Malformed t h = absurd (differ (cc))
+parted bought false (Value p) Comma d t h = absurd (differ (cc))
+parted bought false (Value p) Malformed d t h = absurd (differ (cc))
+parted bought false Comma n d t h = absurd (differ (cc))
+parted bought false Malformed n d t h = absurd (differ (cc))
 
 pub opening-read : (bought : Bool) (v : List ℕ) (t : Trade) → openingOf bought v ≡ Made t → OpeningRead bought v t
 unfolding openingOf
 opening-read bought v t h =
-    let s = parted bought (has "," v) (figureOf priceForm (upToBlank v)) (figureOf tradedForm (afterBlank v)) t h in
-    record { no-comma = s .0; price = s .1; lots = s .2; side = s .3 }
+    let d = stampOf (upToBlank (behindLots v)) (afterBlank (behindLots v)) in
+    let s = parted bought (has "," v) (figureOf priceForm (upToBlank v)) (figureOf tradedForm (upToBlank (behindPrice v))) d t h in
+    record { no-comma = s .0; price = s .1; lots = s .2; stamp = s .3; side = s .4 }
 
 pub record OpeningWithin (bought : Bool) (t : Trade) : Type 0 where
   pub price-least : 1 ≤ t .price .0
@@ -96,5 +115,5 @@ pub opening-within : (bought : Bool) (v : List ℕ) (t : Trade) → openingOf bo
 opening-within bought v t h =
     let o = opening-read bought v t h in
     let p = figure-within priceForm (upToBlank v) (t .price .0) (o .price) in
-    let n = figure-within tradedForm (afterBlank v) (t .lots .0) (o .lots) in
+    let n = figure-within tradedForm (upToBlank (behindPrice v)) (t .lots .0) (o .lots) in
     record { price-least = p .0; price-most = p .1; lots-least = n .0; lots-most = n .1; side = o .side }

@@ -57,7 +57,7 @@ gain-size false s price n hs hp =
     size-mul (pos (price .0) -ℤ pos (s .0)) (pos n) (size-minus (price .0) (s .0) _ (omega arith) (omega arith)) (le-refl n)
 
 -- the lots that count of a trade, with the side inside
-counted-is : (long : Bool) (needed : ℕ) (t : Trade) → counted long needed t ≡ min (lotsOn long t) needed
+pub counted-is : (long : Bool) (needed : ℕ) (t : Trade) → counted long needed t ≡ min (lotsOn long t) needed
 counted-is long needed t = go (onSide long t)
   where
     go : (b : Bool) → cond b (min (t .lots .0) needed) 0 ≡ min (cond b (t .lots .0) 0) needed

@@ -11,7 +11,8 @@ use native.Mathlib.Omega.{arith}
 use Rattle.rules.specs.declared.Terms.{Terms}
 use Rattle.rules.specs.Refusal as refusal
 use Rattle.rules.specs.Text.{is}
-use Rattle.rules.specs.Figures.{openingOf, priceForm, rateForm, heldForm, lots}
+use Rattle.rules.specs.Figures.{priceForm, rateForm, heldForm, lots}
+use Rattle.rules.specs.Opening.{openingOf}
 use Rattle.rules.specs.Book.{
   Customer,
   overdrawn,
