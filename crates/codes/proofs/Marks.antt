@@ -14,7 +14,7 @@ use borrow.Author.Tests.{eqb-true, eqb-false}
 use Rattle.codes.specs.Codes.{givenIn, markOf, Marked}
 use Rattle.codes.proofs.Laws.{given-snoc}
 
-pub mark-below : (key : ℕ) → markOf key < 2048
+pub mark-below : (key : ℕ) → markOf key < 1024
 unfolding markOf
 mark-below key = omega arith
 
@@ -25,7 +25,7 @@ not-given keys marks count key m e = go (givenIn (take count keys) key) refl
     go true h = absurd (omega (arith, m .all key h))
     go false h = h
 
-pub marked-none : (keys : List ℕ) → Marked keys (replicate 2048 0) 0
+pub marked-none : (keys : List ℕ) → Marked keys (replicate 1024 0) 0
 marked-none keys = record { whole = refl; all = λ key h. absurd (no h) }
   where
     no : false ≡ true → ⊥

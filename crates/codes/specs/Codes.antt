@@ -20,9 +20,9 @@ givenIn (k ∷ rest) key = eqb k key || givenIn rest key
 
 -- where a key's mark stands
 unfoldable pub markOf : ℕ → ℕ
-markOf key = key % 2039
+markOf key = key % 1021
 
 -- each of the first count keys has its mark
 pub record Marked (keys marks : List ℕ) (count : ℕ) : Type 0 where
-  pub whole : length marks ≡ 2048
+  pub whole : length marks ≡ 1024
   pub all : (key : ℕ) → givenIn (take count keys) key ≡ true → 0 < getD marks (markOf key) 0

@@ -12,7 +12,7 @@ pub enum Code {
 }
 
 // How many places there are for marks.
-pub const MARKS: usize = 2_048;
+pub const MARKS: usize = 1_024;
 
 // 37 to the 12, and down to 1.
 const POWERS: [u64; 13] = [
@@ -100,11 +100,11 @@ pub fn given(keys: &[u64], count: usize, key: u64) -> bool
     found
 }
 
-// Where a key's mark stands. 2,039 is prime: codes that are numbered in a row seldom share a place, as they do modulo 2,048.
+// Where a key's mark stands. 1,021 is prime: codes that are numbered in a row seldom share a place, as they do modulo 1,024.
 pub fn mark_of(key: u64) -> usize
     ensures { λ r. ⌜ r ≡ markOf key ⌝ }
 {
-    (key % 2_039) as usize
+    (key % 1_021) as usize
 }
 
 // Whether this key is among the first `count`, which all have their marks: the keys are looked through only where its place is marked.

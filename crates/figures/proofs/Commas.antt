@@ -19,7 +19,7 @@ has-append c [] b = refl
 has-append c (x ∷ a) b = simp (has-append c a b, or-assoc)
 
 -- c stands before the point and the digits in the code
-digits-have-none : (c : Char) (ds : List ℕ) → code c < code "." → allDigits ds ≡ true → has c ds ≡ false
+pub digits-have-none : (c : Char) (ds : List ℕ) → code c < code "." → allDigits ds ≡ true → has c ds ≡ false
 digits-have-none c [] l h = refl
 digits-have-none c (x ∷ ds) l h =
     let p = and-eq-true-iff (isDigit x) (allDigits ds) .0 h in

@@ -1,9 +1,11 @@
 -- A figure by its number, with the comma asked for only where there is none: what has a number has no comma.
 -- Assumes nothing.
-use Prim.Native.Nat.{ℕ}
-use mathlib.Core.Path.{_≡_, refl}
+use Prim.Native.Nat.{ℕ, _<_}
+use Prim.Native.Char.{Char, code}
+use mathlib.Core.Path.{_≡_, refl, sym, ap, _∙_}
 use mathlib.Core.Bool.{Bool, true, false, cond, _&&_}
 use mathlib.Core.List.{List}
+use native.Mathlib.Omega.{arith}
 use lib.Dec.{lit<}
 use Rattle.rules.specs.declared.Form.{Form}
 use Rattle.rules.specs.declared.Figure.{Figure}
@@ -32,5 +34,18 @@ unfolding figureOf
 by-number form v = sifted (has "," v) (formed form v) (inRange form (number form v)) (number form v)
     (λ h. formed-has-none "," form v (lit< tt) (formed-parts form v h))
 
-pub number-no-comma : (form : Form) (v : List ℕ) (n : ℕ) → numberOf form v ≡ Number n → has "," v ≡ false
-number-no-comma form v n e = formed-has-none "," form v (lit< tt) (number-formed form v n e)
+pub number-has-none : (c : Char) (form : Form) (v : List ℕ) (n : ℕ) → code c < code "." → numberOf form v ≡ Number n → has c v ≡ false
+number-has-none c form v n l e = formed-has-none c form v l (number-formed form v n e)
+
+-- a figure has the value that is its number
+
+pub valued : (comma : Bool) (d : Digits) (n : ℕ) → figureBy comma d ≡ Value n → d ≡ Number n
+valued comma (Number m) n h = cc
+valued true Other n h = let z : _≡_ {A = ℕ} 0 1 = cc in absurd (omega arith)
+valued false Other n h = let z : _≡_ {A = ℕ} 0 1 = cc in absurd (omega arith)
+
+pub value-number : (form : Form) (v : List ℕ) (n : ℕ) → figureOf form v ≡ Value n → numberOf form v ≡ Number n
+value-number form v n h = valued (has "," v) (numberOf form v) n (sym (by-number form v) ∙ h)
+
+pub number-value : (form : Form) (v : List ℕ) (n : ℕ) → numberOf form v ≡ Number n → figureOf form v ≡ Value n
+number-value form v n h = by-number form v ∙ ap (figureBy (has "," v)) h

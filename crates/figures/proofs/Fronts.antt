@@ -12,7 +12,8 @@ use lib.ListN.{length, getD, take, drop, length-drop, take-append-drop}
 use lib.Seq.{length-take-le, take-add, getD-append-seam}
 use Rattle.rules.specs.declared.Form.{Form}
 use Rattle.rules.specs.Text.{is}
-use Rattle.rules.specs.Figures.{has, allDigits, before, pointed, tail, upToBlank, afterBlank}
+use Rattle.rules.specs.Figures.{has, allDigits, before, pointed, tail}
+use Rattle.rules.specs.Opening.{upToBlank, afterBlank}
 use Rattle.figures.specs.declared.number.Digits.{Digits}
 use Rattle.figures.specs.declared.number.Digits.the-variants.{Number, Other}
 use Rattle.figures.specs.declared.front.Front.the-variants.{Ends}

@@ -7,4 +7,13 @@ pub mod Commas
 pub mod Figures
 pub mod Blanks
 pub mod Fronts
+pub mod Pairs
+pub mod Stamps
+pub mod Written
+pub mod Cuts
+pub mod Twos
+pub mod Dates
+pub mod Places
+pub mod Tests
+pub mod Starts
 pub mod Openings

@@ -1,92 +1,97 @@
--- A trade by its two numbers, with the comma asked for only where one is missing: two numbers and a blank have none.
+-- What a trade's value is by what the reader finds: a trade where all is found, and none where one part is missing, or where there are too few
+-- bytes.
 -- Assumes nothing.
-use Prim.Native.Nat.{ℕ, _<_, _≤_}
-use Prim.Native.Char.{code}
-use mathlib.Core.Path.{_≡_, refl, ap, _∙_}
+use Prim.Native.Nat.{ℕ, _+_, _-_, _<_}
+use mathlib.Core.Path.{_≡_, refl}
 use mathlib.Core.Bool.{Bool, true, false, cond}
-use mathlib.Core.List.{List, _∷_}
+use mathlib.Core.List.{List}
 use native.Mathlib.Omega.{arith}
-use borrow.Author.Tests.{ltb-true, ltb-false}
-use lib.Dec.{ltb}
-use lib.ListN.{length, length-append}
-use Rattle.figures.proofs.Lists.{by-test}
-use Rattle.rules.specs.declared.Opening.{Opening}
+use lib.ListN.{length, take, drop}
+use Rattle.rules.specs.declared.Trade.{Trade}
+use Rattle.rules.specs.declared.Figure.{Figure}
+use Rattle.rules.specs.declared.Figure.the-variants.{Value, Comma, Malformed}
 use Rattle.rules.specs.declared.Opening.the-variants.{Made}
 use Rattle.rules.specs.declared.Opening.the-variants.{Comma as CommaIn}
 use Rattle.rules.specs.declared.Opening.the-variants.{Malformed as NoTrade}
-use Rattle.rules.specs.Figures.{openingOf, has, priceForm, tradedForm}
-use Rattle.rules.specs.Figures.{upToBlank, afterBlank, tradeFrom, fen, lots}
-use Rattle.figures.proofs.Commas.{has-append}
-use Rattle.figures.specs.declared.number.Digits.{Digits}
+use Rattle.rules.specs.Figures.{has, figureOf, priceForm, tradedForm}
+use Rattle.rules.specs.Stamp.{stampOf}
+use Rattle.rules.specs.Opening.{openingOf, upToBlank, afterBlank, tradeFrom}
 use Rattle.figures.specs.declared.number.Digits.the-variants.{Number, Other}
-use Rattle.figures.specs.Numbers.{numberOf, noOpening}
-use Rattle.figures.proofs.Figures.{figureBy, by-number, number-no-comma}
-use Rattle.figures.specs.declared.front.Front.the-variants.{Other as NoFront}
-use Rattle.figures.specs.Fronts.{frontOf}
-use Rattle.figures.proofs.Formed.{number-most}
-use Rattle.figures.proofs.Fronts.{front-missing}
-use Rattle.figures.proofs.Blanks.{blank-inside, nothing-after}
+use Rattle.figures.specs.declared.pair.Pair.the-variants.{Both}
+use Rattle.figures.specs.declared.pair.Pair.the-variants.{Other as NoPair}
+use Rattle.figures.specs.Good.{good, tradeOf, good-made}
+use Rattle.figures.specs.Numbers.{noOpening}
+use Rattle.figures.specs.Pairs.{pairOf}
+use Rattle.figures.specs.Stamps.{stampIn}
+use Rattle.figures.proofs.Written.{Written, made-written, written-made}
+use Rattle.figures.proofs.Cuts.{written-size, cut-written, read-written}
 
--- without a blank there are no lots
-no-number : (v : List ℕ) → length v ≤ length (upToBlank v) → numberOf tradedForm (afterBlank v) ≡ Other
-no-number v h = ap (numberOf tradedForm) (nothing-after v h)
+sifted :
+    (bought comma : Bool) (p n d : Figure) → ((t : Trade) → cond comma CommaIn (tradeFrom bought p n d) ≡ Made t → ⊥) →
+    cond comma CommaIn (tradeFrom bought p n d) ≡ cond comma CommaIn NoTrade
+sifted bought true p n d h = refl
+sifted bought false (Value p) (Value n) (Value d) h = absurd (h _ refl)
+sifted bought false (Value p) (Value n) Comma h = refl
+sifted bought false (Value p) (Value n) Malformed h = refl
+sifted bought false (Value p) Comma d h = refl
+sifted bought false (Value p) Malformed d h = refl
+sifted bought false Comma n d h = refl
+sifted bought false Malformed n d h = refl
 
--- a trade of these numbers; where one is missing, the comma tells
-abbrev pub openingBy : Bool → Bool → Digits → Digits → Opening
-openingBy bought comma (Number p) (Number n) = Made (record { bought = bought; price = fen p; lots = lots n })
-openingBy bought comma (Number p) Other = cond comma CommaIn NoTrade
-openingBy bought comma Other n = cond comma CommaIn NoTrade
-
-joined :
-    (bought comma c d : Bool) (p n : Digits) → ((i j : ℕ) → p ≡ Number i → n ≡ Number j → comma ≡ false) →
-    cond comma CommaIn (tradeFrom bought (figureBy c p) (figureBy d n)) ≡ openingBy bought comma p n
-joined bought comma c d (Number p) (Number n) h = simp (h p n refl refl)
-joined bought comma c true (Number p) Other h = refl
-joined bought comma c false (Number p) Other h = refl
-joined bought comma true d Other n h = refl
-joined bought comma false d Other n h = refl
-
--- two numbers have a blank between them
-between :
-    (v : List ℕ) (j : ℕ) → numberOf tradedForm (afterBlank v) ≡ Number j → length (upToBlank v) < length v
-between v j n =
-    by-test (ltb (length (upToBlank v)) (length v))
-    (λ t. ltb-true _ _ t)
-    (λ t. let e = no-number v (ltb-false _ _ t) in let z : _≡_ {A = ℕ} 0 1 = cc in absurd (omega arith))
-
-both-plain :
-    (v : List ℕ) (i j : ℕ) →
-    numberOf priceForm (upToBlank v) ≡ Number i → numberOf tradedForm (afterBlank v) ≡ Number j → has "," v ≡ false
-both-plain v i j p n =
-    ap (has ",") (blank-inside v (between v j n))
-    ∙ simp (has-append, number-no-comma priceForm (upToBlank v) i p, number-no-comma tradedForm (afterBlank v) j n)
-
-pub by-numbers :
-    (bought : Bool) (v : List ℕ) →
-    openingOf bought v ≡ openingBy bought (has "," v) (numberOf priceForm (upToBlank v)) (numberOf tradedForm (afterBlank v))
+no-trade : (bought : Bool) (v : List ℕ) → ((t : Trade) → openingOf bought v ≡ Made t → ⊥) → openingOf bought v ≡ noOpening v
 unfolding openingOf
-by-numbers bought v =
-    simp (by-number priceForm (upToBlank v), by-number tradedForm (afterBlank v))
-    (joined bought (has "," v) (has "," (upToBlank v)) (has "," (afterBlank v)) _ _ (both-plain v))
+no-trade bought v h =
+    let price = figureOf priceForm (upToBlank v) in
+    let lots = figureOf tradedForm (upToBlank (afterBlank v)) in
+    let last = afterBlank (afterBlank v) in
+    sifted bought (has "," v) price lots (stampOf (upToBlank last) (afterBlank last)) h
 
-missing :
-    (bought comma : Bool) (p n : Digits) → ((i j : ℕ) → p ≡ Number i → n ≡ Number j → ⊥) → openingBy bought comma p n ≡ cond comma CommaIn NoTrade
-missing bought comma (Number p) (Number n) h = absurd (h p n refl refl)
-missing bought comma (Number p) Other h = refl
-missing bought comma Other n h = refl
+-- a value that is not written as a trade is none
+not-written : (bought : Bool) (v : List ℕ) → ((p n d : ℕ) → Written v p n d → ⊥) → openingOf bought v ≡ noOpening v
+not-written bought v h = no-trade bought v (λ t m. h _ _ _ (made-written bought v t m))
 
-no-trade :
-    (bought : Bool) (v : List ℕ) →
-    ((i j : ℕ) → numberOf priceForm (upToBlank v) ≡ Number i → numberOf tradedForm (afterBlank v) ≡ Number j → ⊥) →
-    openingOf bought v ≡ noOpening v
-no-trade bought v h = by-numbers bought v ∙ missing bought (has "," v) _ _ h
+pub too-short : (bought : Bool) (v : List ℕ) → length v < 14 → openingOf bought v ≡ noOpening v
+too-short bought v l = not-written bought v (λ p n d w. omega (arith, written-size v p n d w))
 
--- 8 bytes of a price, the blank, 7 bytes of lots
-pub too-long : (bought : Bool) (v : List ℕ) → 16 < length v → openingOf bought v ≡ noOpening v
-too-long bought v l =
-    no-trade bought v (λ i j p n.
-    let s = ap length (blank-inside v (between v j n)) ∙ length-append (upToBlank v) (code " " ∷ afterBlank v) in
-    omega (arith, s, number-most priceForm (upToBlank v) i p, number-most tradedForm (afterBlank v) j n))
+-- one part that is missing
 
-pub no-price : (bought : Bool) (v : List ℕ) → frontOf priceForm v ≡ NoFront → openingOf bought v ≡ noOpening v
-no-price bought v h = no-trade bought v (λ i j p n. front-missing priceForm v i h (between v j n) p)
+pub no-stamp :
+    (bought : Bool) (v : List ℕ) (cut : ℕ) → cut + 14 ≡ length v → stampIn (drop cut v) ≡ Other → openingOf bought v ≡ noOpening v
+no-stamp bought v cut c h =
+    not-written bought v (λ p n d w.
+    let s = cut-written v cut p n d c w .1 in
+    let z : _≡_ {A = ℕ} 0 1 = cc in
+    absurd (omega arith))
+
+pub no-pair :
+    (bought : Bool) (v : List ℕ) (cut : ℕ) → cut + 14 ≡ length v → pairOf (take cut v) ≡ NoPair → openingOf bought v ≡ noOpening v
+no-pair bought v cut c h =
+    not-written bought v (λ p n d w.
+    let s = cut-written v cut p n d c w .0 in
+    let z : _≡_ {A = ℕ} 0 1 = cc in
+    absurd (omega arith))
+
+-- all is found
+pub all-read :
+    (bought : Bool) (v : List ℕ) (cut p n d : ℕ) → cut + 14 ≡ length v →
+    pairOf (take cut v) ≡ Both p n → stampIn (drop cut v) ≡ Number d → openingOf bought v ≡ Made (tradeOf bought p n d)
+all-read bought v cut p n d c pair stamp = written-made bought v p n d (read-written v cut p n d c pair stamp)
+
+-- a trade that was read has both parts
+
+pub record Parts (v : List ℕ) : Type 0 where
+  pub price : ℕ
+  pub lots : ℕ
+  pub made : ℕ
+  pub room : length v - 14 + 14 ≡ length v
+  pub pair : pairOf (take (length v - 14) v) ≡ Both price lots
+  pub stamp : stampIn (drop (length v - 14) v) ≡ Number made
+
+pub good-parts : (bought : Bool) (v : List ℕ) → good (openingOf bought v) ≡ true → Parts v
+good-parts bought v h =
+    let m = good-made (openingOf bought v) h in
+    let t = m .0 in
+    let w = made-written bought v t (m .1) in
+    let room : length v - 14 + 14 ≡ length v = omega (arith, written-size v _ _ _ w) in
+    let c = cut-written v (length v - 14) _ _ _ room w in
+    record { price = t .price .0; lots = t .lots .0; made = t .stamp .0; room = room; pair = c .0; stamp = c .1 }

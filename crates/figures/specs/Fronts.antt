@@ -6,7 +6,7 @@ use mathlib.Core.Bool.{cond}
 use lib.ListN.{length}
 use lib.Dec.{ltb}
 use Rattle.rules.specs.declared.Form.{Form}
-use Rattle.rules.specs.Figures.{upToBlank}
+use Rattle.rules.specs.Opening.{upToBlank}
 use Rattle.figures.specs.declared.number.Digits.{Digits}
 use Rattle.figures.specs.declared.number.Digits.the-variants.{Number, Other}
 use Rattle.figures.specs.declared.front.Front.{Front}

@@ -19,7 +19,7 @@ pub struct Run {
 }
 
 // The digit that a byte writes, and more than 9 where it writes none.
-fn digit_of(x: u8) -> u64
+pub fn digit_of(x: u8) -> u64
     ensures { λ r. ⌜ DigitOf x r ⌝ }
 {
     std::num::wrapping_sub_u64(x as u64, b'0' as u64)
@@ -44,7 +44,7 @@ pub fn read_run(v: &[u8], n: u64) -> Run
 }
 
 // The number that the digits of v write after the number n.
-fn read_digits(v: &[u8], n: u64) -> Digits
+pub fn read_digits(v: &[u8], n: u64) -> Digits
     requires { ⌜ (n < 10 ^ 9) × (length (now v) ≤ 9) ⌝ }
     ensures { λ r. ⌜ r ≡ digitsAfter n (now (v .entry)) ⌝ }
 {

@@ -1,3 +1,4 @@
 pub mod Position
 pub mod Group
 pub mod Ranges
+pub mod Total

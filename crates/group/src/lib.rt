@@ -1,6 +1,7 @@
 // Reads a customer's group.
 use fields::FigureAt;
 use fields::Refusal;
+use rules::Fen;
 use rules::Lots;
 use rules::Position;
 use rules::Standing;
@@ -10,7 +11,7 @@ use rules::tag;
 use trades::TradesAt;
 ghost use mathlib.Core.Path.{_≡_};
 ghost use mathlib.Core.List.{List};
-ghost use Prim.Native.Nat.{ℕ};
+ghost use Prim.Native.Nat.{ℕ, _≤_};
 ghost use lib.ListN.{drop};
 ghost use Rattle.rules.specs.Fields.{fieldsOf};
 ghost use Rattle.rules.specs.Book.{DueTrade, Open, afterC, overdrawn};
@@ -20,6 +21,8 @@ ghost use Rattle.laws.specs.Groups.{groupFrom};
 ghost use Rattle.gain.specs.Ranges.{Ranged};
 ghost use Rattle.fields.specs.Ranges.{Short};
 ghost use Rattle.terms.specs.Ranges.{Sound};
+ghost use Rattle.trades.specs.Walk.{newestIn};
+ghost use Rattle.group.specs.Total.{Summed};
 ghost use Rattle.group.specs.Position.{positionOf};
 ghost use Rattle.group.specs.Group.{started, closedAt, groupAt};
 ghost use Rattle.group.specs.Ranges.{Held};
@@ -134,6 +137,33 @@ fn closed_at(terms: Terms, position: Position, place: usize, total: i64) -> Grou
     }
 }
 
+// The gain of the newest `need` lots on a side, whatever the order of the trades from a place on, of which all `opened` lots have this `gain`.
+// Where all of them count, or none, nothing is read again.
+fn total_gain(
+    book: &[u8],
+    settlement: Fen,
+    long: bool,
+    first: usize,
+    need: u64,
+    opened: u64,
+    gain: i64,
+    ordered: bool,
+) -> i64
+    requires { ⌜ Short (now book) ⌝ ∗ ⌜ settlement .0 ≤ 9_999_999 ⌝ ∗ ⌜ Summed long settlement (now book) first need opened gain ordered ⌝ }
+    ensures { λ r. ⌜ r ≡ newestIn long settlement need (now (book .entry)) first ⌝ }
+{
+    if need == 0 {
+        return 0;
+    }
+    if opened == need {
+        return gain;
+    }
+    if ordered {
+        return gain - trades::oldest_gain(book, settlement, long, first, opened - need);
+    }
+    newest::newest_gain(book, settlement, long, first, need, opened)
+}
+
 // A customer's trades and what comes of them, where its position is read; its C is at `place`.
 fn group_of(book: &[u8], terms: Terms, place: usize, position: Position, first: usize) -> GroupAt
     requires { ⌜ Short (now book) ⌝ ∗ ⌜ Sound terms ⌝ ∗ ⌜ Held position ⌝ }
@@ -145,6 +175,7 @@ fn group_of(book: &[u8], terms: Terms, place: usize, position: Position, first: 
             place: at,
             opened,
             gain,
+            ordered,
         } => {
             let net = gain::net_of(position);
             if opened < net.0 {
@@ -153,8 +184,17 @@ fn group_of(book: &[u8], terms: Terms, place: usize, position: Position, first: 
                     place,
                 });
             }
-            let oldest = trades::oldest_gain(book, terms.settlement, long, first, opened - net.0);
-            closed_at(terms, position, at, gain - oldest)
+            let total = total_gain(
+                book,
+                terms.settlement,
+                long,
+                first,
+                net.0,
+                opened,
+                gain,
+                ordered,
+            );
+            closed_at(terms, position, at, total)
         }
         TradesAt::Refused(r) => GroupAt::Refused(r),
     }

@@ -1,16 +1,11 @@
--- What a run of trades comes to in a group: the same refusal, or a customer whose lots and gain on the side are those that were summed up,
--- and of whose oldest lots a second pass gives the gain.
+-- What a run of trades comes to in a group: the same refusal, or a customer whose lots and gain on the side are those that were summed up.
 -- Assumes nothing.
-use Prim.Native.Nat.{ℕ, _+_, _-_, _≤_, _<_, min}
-use mathlib.Core.Path.{_≡_, refl, sym, ap, _∙_}
+use Prim.Native.Nat.{ℕ, _+_}
+use mathlib.Core.Path.{_≡_, refl}
 use mathlib.Core.List.{List, [], _∷_}
 use mathlib.Core.Bool.{Bool, true, false, cond, _||_}
-use mathlib.Core.Logic.{⊎-elim}
-use native.Mathlib.Nat.{eq-zero-or-pos}
-use native.Mathlib.Omega.{arith}
 use lib.ListN.{length}
-use lib.IntN.{ℤ, pos, _+ℤ_, +ℤ-assoc, +ℤ-idr}
-use borrow.Author.Tests.{ne-eqb}
+use lib.IntN.{ℤ, _+ℤ_}
 use Rattle.rules.specs.declared.Fen.{Fen}
 use Rattle.rules.specs.declared.Terms.{Terms}
 use Rattle.rules.specs.declared.Trade.{Trade}
@@ -18,112 +13,98 @@ use Rattle.rules.specs.declared.Opening.{Opening}
 use Rattle.rules.specs.declared.Opening.the-variants.{Made, Comma, Malformed}
 use Rattle.rules.specs.Refusal as refusal
 use Rattle.rules.specs.Text.{is}
-use Rattle.rules.specs.Figures.{openingOf}
+use Rattle.rules.specs.Opening.{openingOf}
 use Rattle.rules.specs.Fields.{Field, Whole, Cut}
 use Rattle.rules.specs.Book.{Customer, opened, DueTrade, Open, traded, within}
 use Rattle.rules.specs.Standing.{gainOf}
 use Rattle.laws.specs.Figures.{opening-within}
-use Rattle.laws.specs.Gains.{lotsOn, allGain, oldestGain, gain-none, Priced, more}
+use Rattle.laws.specs.Gains.{lotsOn, allGain, Priced}
 use Rattle.laws.specs.Groups.{Bad, closing, groupFrom}
+use Rattle.order.specs.Order.{inFront, arranged}
+use Rattle.order.specs.Trades.{when}
+use Rattle.order.specs.Gains.{OnSideInOrder}
+use Rattle.trades.specs.declared.Order.{Order}
 use Rattle.trades.specs.declared.TradesAt.{TradesAt}
 use Rattle.trades.specs.declared.TradesAt.the-variants.{Closed, Refused}
 use Rattle.fields.specs.Reading.{refusedAt}
-use Rattle.trades.specs.Trades.{opening, tradesFrom}
-use Rattle.trades.proofs.Oldest.{oldestFrom, oldest-zero}
+use Rattle.trades.specs.Trades.{opening, orderAfter, tradesFrom}
+use Rattle.trades.specs.Walk.{tradesIn}
+use Rattle.trades.proofs.Adds.{closing-no-trade, Adds, adds-more}
 
 module _ (long : Bool) (s : Fen) (terms : Terms) (lastC : ℕ) where
-  -- the group ends with a customer who has the trades of c and those of the fields
-  pub record Ends (c : Customer) (at : ℕ) (fs : List Field) (place sum : ℕ) (gain : ℤ) : Type 0 where
+  -- the group ends with a customer who holds the trades of c, which stand in the book as ts, and those of the fields; the latest place is first
+  pub record Ends (c : Customer) (ts : List Trade) (at : ℕ) (fs : List Field) (place sum : ℕ) (gain : ℤ) (ordered : Bool) : Type 0 where
     pub customer : Customer
     pub back : List Field
+    pub latest : List Trade
     pub position : customer .position ≡ c .position
     pub reads : groupFrom terms (Open DueTrade c) lastC at fs ≡ closing lastC place back (Open DueTrade customer)
-    pub lots : sum ≡ opened long (customer .trades)
-    pub gained : gain ≡ allGain long s (customer .trades)
+    pub stand : latest ≡ inFront (tradesIn fs) ts
+    pub held : customer .trades ≡ arranged when latest
+    pub lots : sum ≡ opened long latest
+    pub gained : gain ≡ allGain long s latest
+    pub order : ordered ≡ true → OnSideInOrder long latest
     pub priced : Priced (customer .trades)
-    pub oldest :
-        (skip : ℕ) → skip ≤ opened long (customer .trades) →
-        oldestGain long s skip (customer .trades) ≡ oldestGain long s skip (c .trades) +ℤ oldestFrom long s (skip - opened long (c .trades)) fs
 
-  abbrev pub Means : Customer → ℕ → List Field → TradesAt → Type 0
-  Means c at fs (Refused r) = groupFrom terms (Open DueTrade c) lastC at fs ≡ Bad (r .number) (r .place)
-  Means c at fs (Closed place sum gain) = Ends c at fs place sum gain
+  abbrev pub Means : Customer → List Trade → ℕ → List Field → TradesAt → Type 0
+  Means c ts at fs (Refused r) = groupFrom terms (Open DueTrade c) lastC at fs ≡ Bad (r .number) (r .place)
+  Means c ts at fs (Closed place sum gain ordered) = Ends c ts at fs place sum gain ordered
 
-  -- one more trade: what is left to skip goes on with the next field
-  oldest-step : (t : ℕ) (v : List ℕ) (fs : List Field) (x : Trade) (ts : List Trade) (skip : ℕ) → openingOf (is "B" t) v ≡ Made x →
-      oldestGain long s skip (x ∷ ts) +ℤ oldestFrom long s (skip - opened long (x ∷ ts)) fs
-      ≡ oldestGain long s skip ts +ℤ oldestFrom long s (skip - opened long ts) (Whole t v ∷ fs)
-  unfolding oldestGain
-  oldest-step t v fs x ts skip e = ⊎-elim done going (eq-zero-or-pos (skip - opened long ts))
-    where
-      done : skip - opened long ts ≡ 0 →
-          oldestGain long s skip (x ∷ ts) +ℤ oldestFrom long s (skip - opened long (x ∷ ts)) fs
-          ≡ oldestGain long s skip ts +ℤ oldestFrom long s (skip - opened long ts) (Whole t v ∷ fs)
-      done h =
-          let n : min (lotsOn long x) (skip - opened long ts) ≡ 0 = omega arith in
-          let m : skip - (lotsOn long x + opened long ts) ≡ 0 = omega arith in
-          rw (n, m, h, gain-none long s (x .price), oldest-zero long s fs) (ap (λ (z : ℤ). z +ℤ pos 0) (+ℤ-idr (oldestGain long s skip ts)))
-
-      going : 0 < skip - opened long ts →
-          oldestGain long s skip (x ∷ ts) +ℤ oldestFrom long s (skip - opened long (x ∷ ts)) fs
-          ≡ oldestGain long s skip ts +ℤ oldestFrom long s (skip - opened long ts) (Whole t v ∷ fs)
-      going h =
-          let m : skip - (lotsOn long x + opened long ts) ≡ (skip - opened long ts) - min (lotsOn long x) (skip - opened long ts) = omega arith in
-          rw (ne-eqb (skip - opened long ts) 0 (λ z. omega arith), e, m)
-          (+ℤ-assoc (oldestGain long s skip ts) (gainOf long s (x .price) (min (lotsOn long x) (skip - opened long ts))) _)
-
-  module _ (c : Customer) (at : ℕ) (t : ℕ) (v : List ℕ) (fs : List Field) (plain : (is "C" t || is "Z" t) ≡ false) where
+  module _ (c : Customer) (ts : List Trade) (at : ℕ) (t : ℕ) (v : List ℕ) (fs : List Field) (plain : (is "C" t || is "Z" t) ≡ false) where
     -- a refusal, and a customer, of the fields after a trade are those of the fields with it
     extend : (x : Trade) → (is "B" t || is "A" t) ≡ true → openingOf (is "B" t) v ≡ Made x → (r : TradesAt) →
-        Means (traded c x) (at + 3 + length v) fs r → Means c at (Whole t v ∷ fs) r
+        Means (traded c x) (x ∷ ts) (at + 3 + length v) fs r → Means c ts at (Whole t v ∷ fs) r
     unfolding within
     extend x b e (Refused r) m = rw (plain, b, e) m
-    extend x b e (Closed place sum gain) m =
+    extend x b e (Closed place sum gain ordered) m =
         record {
           customer = m .customer;
           back = m .back;
+          latest = m .latest;
           position = m .position;
           reads = rw (plain, b, e) (m .reads);
+          stand = rw (b, e) (m .stand);
+          held = m .held;
           lots = m .lots;
           gained = m .gained;
+          order = m .order;
           priced = m .priced;
-          oldest = λ skip h. m .oldest skip h ∙ oldest-step t v fs x (c .trades) skip e;
         }
 
-  pub run-means : (c : Customer) (at sum : ℕ) (gain : ℤ) (fs : List Field) →
-      sum ≡ opened long (c .trades) → gain ≡ allGain long s (c .trades) → Priced (c .trades) → Means c at fs (tradesFrom long s at sum gain fs)
-  unfolding within allGain
-  run-means c at sum gain [] l g p = refl
-  run-means c at sum gain (Cut ∷ fs) l g p = refl
-  run-means c at sum gain (Whole t v ∷ fs) l g p =
+  pub run-means : (c : Customer) (ts : List Trade) (at sum : ℕ) (gain : ℤ) (o : Order) (fs : List Field) → Adds long s c ts sum gain o →
+      Means c ts at fs (tradesFrom long s at sum gain o fs)
+  unfolding within
+  run-means c ts at sum gain o [] a = refl
+  run-means c ts at sum gain o (Cut ∷ fs) a = refl
+  run-means c ts at sum gain o (Whole t v ∷ fs) a =
       go (is "C" t || is "Z" t) (is "B" t || is "A" t) (openingOf (is "B" t) v) refl refl refl
-      (λ x e w. run-means (traded c x) (at + 3 + length v) (sum + lotsOn long x) (gain +ℤ gainOf long s (x .price) (lotsOn long x)) fs
-      (omega arith) (ap (λ (z : ℤ). z +ℤ gainOf long s (x .price) (lotsOn long x)) g) w)
+      (λ x w. run-means (traded c x) (x ∷ ts) (at + 3 + length v) (sum + lotsOn long x) (gain +ℤ gainOf long s (x .price) (lotsOn long x)) (orderAfter long o x) fs w)
     where
-      go : (p₁ p₂ : Bool) (o : Opening) → (is "C" t || is "Z" t) ≡ p₁ → (is "B" t || is "A" t) ≡ p₂ → openingOf (is "B" t) v ≡ o →
-          ((x : Trade) → openingOf (is "B" t) v ≡ Made x → Priced (x ∷ c .trades) →
-          Means (traded c x) (at + 3 + length v) fs (tradesFrom long s (at + 3 + length v) (sum + lotsOn long x) (gain +ℤ gainOf long s (x .price) (lotsOn long x)) fs)) →
-          Means c at (Whole t v ∷ fs)
-          (cond p₁ (Closed at sum gain)
-          (cond p₂ (opening at o λ x. tradesFrom long s (at + 3 + length v) (sum + lotsOn long x) (gain +ℤ gainOf long s (x .price) (lotsOn long x)) fs)
+      go : (p₁ p₂ : Bool) (read : Opening) → (is "C" t || is "Z" t) ≡ p₁ → (is "B" t || is "A" t) ≡ p₂ → openingOf (is "B" t) v ≡ read →
+          ((x : Trade) → Adds long s (traded c x) (x ∷ ts) (sum + lotsOn long x) (gain +ℤ gainOf long s (x .price) (lotsOn long x)) (orderAfter long o x) →
+          Means (traded c x) (x ∷ ts) (at + 3 + length v) fs (tradesFrom long s (at + 3 + length v) (sum + lotsOn long x) (gain +ℤ gainOf long s (x .price) (lotsOn long x)) (orderAfter long o x) fs)) →
+          Means c ts at (Whole t v ∷ fs)
+          (cond p₁ (Closed at sum gain (o .kept))
+          (cond p₂ (opening at read λ x. tradesFrom long s (at + 3 + length v) (sum + lotsOn long x) (gain +ℤ gainOf long s (x .price) (lotsOn long x)) (orderAfter long o x) fs)
           (Refused (refusedAt refusal.misplaced at))))
-      go true p₂ o a b e ih =
+      go true p₂ read e b m ih =
           record {
             customer = c;
             back = Whole t v ∷ fs;
+            latest = ts;
             position = refl;
-            reads = rw a;
-            lots = l;
-            gained = g;
-            priced = p;
-            oldest = λ skip h.
-                let z : skip - opened long (c .trades) ≡ 0 = omega arith in
-                rw z (sym (+ℤ-idr (oldestGain long s skip (c .trades))));
+            reads = rw e;
+            stand = rw (closing-no-trade t e);
+            held = a .held;
+            lots = a .lots;
+            gained = a .gained;
+            order = λ k. a .order k .order;
+            priced = a .priced;
           }
-      go false false o a b e ih = rw (a, b)
-      go false true Comma a b e ih = rw (a, b, e)
-      go false true Malformed a b e ih = rw (a, b, e)
-      go false true (Made x) a b e ih =
-          let w = opening-within (is "B" t) v x e in
-          let r = tradesFrom long s (at + 3 + length v) (sum + lotsOn long x) (gain +ℤ gainOf long s (x .price) (lotsOn long x)) fs in
-          extend c at t v fs a x b e r (ih x e (more (w .price-most) (w .lots-most) p))
+      go false false read e b m ih = rw (e, b)
+      go false true Comma e b m ih = rw (e, b, m)
+      go false true Malformed e b m ih = rw (e, b, m)
+      go false true (Made x) e b m ih =
+          let w = opening-within (is "B" t) v x m in
+          let r = tradesFrom long s (at + 3 + length v) (sum + lotsOn long x) (gain +ℤ gainOf long s (x .price) (lotsOn long x)) (orderAfter long o x) fs in
+          extend c ts at t v fs e x b m r (ih x (adds-more long s c ts sum gain o x (w .price-most) (w .lots-most) a))

@@ -14,25 +14,38 @@ ghost use lib.IntN.{pos};
 ghost use lib.ListN.{drop};
 ghost use Rattle.rules.specs.Text.{is};
 ghost use Rattle.rules.specs.Fields.{fieldsOf};
+ghost use Rattle.rules.specs.Book.{onSide};
 ghost use Rattle.laws.specs.Gains.{lotsOn};
 ghost use Rattle.fields.specs.Ranges.{Short};
-ghost use Rattle.trades.specs.Trades.{tradesFrom, takenFrom, gainIn};
+ghost use Rattle.trades.specs.Walk.{tradesAt, nextFrom, Readable, oldestOf};
+ghost use Rattle.trades.specs.Trades.{noneYet, orderAfter, tradesFrom};
 
-// A customer's trades up to the field that closes the group: the lots opened on the side of its net position, and their gain.
+// A customer's trades up to the field that closes the group: the lots opened on the side of its net position, their gain, and whether they
+// come in order of their stamps.
 pub enum TradesAt {
     Closed {
         place: usize,
         opened: u64,
         gain: i64,
+        ordered: bool,
     },
     Refused(Refusal),
 }
 
-// More lots than 60,000 bytes have room for: at most 1,000,000 in each of fewer trades.
-const MORE_THAN_ALL: u64 = 100_000_000_000;
+// A trade that stands at a place and where it ends, or that none does.
+pub enum Next {
+    At { trade: Trade, end: usize },
+    End,
+}
+
+// The stamp of the last trade on a side, or 0, and whether none is below the one before.
+struct Order {
+    last: u64,
+    kept: bool,
+}
 
 // A trade's lots on a side.
-fn lots_on(long: bool, t: Trade) -> u64
+pub fn lots_on(long: bool, t: Trade) -> u64
     ensures { λ r. ⌜ r ≡ lotsOn long t ⌝ }
 {
     if long {
@@ -40,6 +53,26 @@ fn lots_on(long: bool, t: Trade) -> u64
     } else {
         if t.bought { 0 } else { t.lots.0 }
     }
+}
+
+fn on_side(long: bool, t: Trade) -> bool
+    ensures { λ r. ⌜ r ≡ onSide long t ⌝ }
+{
+    if long { t.bought } else { !t.bought }
+}
+
+// The order with one trade more.
+fn order_after(order: Order, long: bool, t: Trade) -> Order
+    ensures { λ r. ⌜ r ≡ orderAfter long order t ⌝ }
+{
+    if on_side(long, t) {
+        let kept = order.kept && order.last <= t.stamp.0;
+        return Order {
+            last: t.stamp.0,
+            kept,
+        };
+    }
+    order
 }
 
 fn no_trades(number: u64, place: usize) -> TradesAt
@@ -60,25 +93,29 @@ fn is_closing(tag: u8) -> bool
     tag == tag::C || tag == tag::Z
 }
 
-// The trades of a group from a place on, up to the field that closes it or until so many lots on a side are taken: these lots, and their gain.
-// One loop for both passes, so that the reader of a trade stands in it once.
-fn take_trades(book: &[u8], settlement: Fen, long: bool, first: usize, most: u64) -> TradesAt
+// All trades of a group from a place on, up to the field that closes it: their lots on a side, the gain of these, and whether they come in
+// order.
+pub fn read_trades(book: &[u8], settlement: Fen, long: bool, first: usize) -> TradesAt
     requires { ⌜ Short (now book) ⌝ ∗ ⌜ settlement .0 ≤ 9_999_999 ⌝ }
-    ensures { λ r. ⌜ r ≡ takenFrom long settlement most first 0 (pos 0) (fieldsOf (drop first (now (book .entry)))) ⌝ }
+    ensures { λ r. ⌜ r ≡ tradesFrom long settlement first 0 (pos 0) noneYet (fieldsOf (drop first (now (book .entry)))) ⌝ }
 {
     let mut at = first;
-    let mut left = most;
+    let mut opened: u64 = 0;
     let mut gain: i64 = 0;
-    while 0 < left {
+    let mut order = Order {
+        last: 0,
+        kept: true,
+    };
+    loop {
         let Found::Field { tag, start, end } = fields::field_at(book, at) else {
             return no_trades(refusal::CUT_SHORT, at);
         };
         if is_closing(tag) {
-            let opened = most - left;
             return TradesAt::Closed {
                 place: at,
                 opened,
                 gain,
+                ordered: order.kept,
             };
         }
         if !is_trade(tag) {
@@ -86,41 +123,49 @@ fn take_trades(book: &[u8], settlement: Fen, long: bool, first: usize, most: u64
         }
         match figures::read_opening(&book[start..end], tag == tag::B) {
             Opening::Made(t) => {
-                let n = lesser(lots_on(long, t), left);
+                let n = lots_on(long, t);
                 gain += gain::gain_of(long, settlement, t.price, n);
-                left -= n;
+                opened += n;
+                order = order_after(order, long, t);
             }
             Opening::Comma => return no_trades(refusal::COMMA, at),
             Opening::Malformed => return no_trades(refusal::MALFORMED, at),
         }
         at = end;
     }
-    TradesAt::Closed {
-        place: at,
-        opened: most,
-        gain,
-    }
 }
 
-// All trades of a group from a place on: their lots on a side, and the gain of these.
-pub fn read_trades(book: &[u8], settlement: Fen, long: bool, first: usize) -> TradesAt
-    requires { ⌜ Short (now book) ⌝ ∗ ⌜ settlement .0 ≤ 9_999_999 ⌝ }
-    ensures { λ r. ⌜ r ≡ tradesFrom long settlement first 0 (pos 0) (fieldsOf (drop first (now (book .entry)))) ⌝ }
+// The trade at a place, or the end of the trades, where all were read before.
+pub fn next_trade(book: &[u8], at: usize) -> Next
+    requires { ⌜ Readable (now book) at ⌝ }
+    ensures { λ r. ⌜ r ≡ nextFrom at (fieldsOf (drop at (now (book .entry)))) ⌝ }
 {
-    take_trades(book, settlement, long, first, MORE_THAN_ALL)
+    let Found::Field { tag, start, end } = fields::field_at(book, at) else {
+        return Next::End;
+    };
+    if !is_trade(tag) {
+        return Next::End;
+    }
+    let trade = figures::read_again(&book[start..end], tag == tag::B);
+    Next::At { trade, end }
 }
 
-// The gain of the oldest `skip` lots on a side, of the trades from a place on.
+// The gain of the oldest `skip` lots on a side, of the trades from a place on, which were read before.
 pub fn oldest_gain(book: &[u8], settlement: Fen, long: bool, first: usize, skip: u64) -> i64
-    requires { ⌜ Short (now book) ⌝ ∗ ⌜ settlement .0 ≤ 9_999_999 ⌝ }
-    ensures { λ r. ⌜ r ≡ gainIn (takenFrom long settlement skip first 0 (pos 0) (fieldsOf (drop first (now (book .entry))))) ⌝ }
+    requires { ⌜ Short (now book) ⌝ ∗ ⌜ settlement .0 ≤ 9_999_999 ⌝ ∗ ⌜ Readable (now book) first ⌝ }
+    ensures { λ r. ⌜ r ≡ oldestOf long settlement skip (tradesAt (now (book .entry)) first) ⌝ }
 {
-    match take_trades(book, settlement, long, first, skip) {
-        TradesAt::Closed {
-            place: _,
-            opened: _,
-            gain,
-        } => gain,
-        TradesAt::Refused(_) => 0,
+    let mut at = first;
+    let mut left = skip;
+    let mut gain: i64 = 0;
+    while 0 < left {
+        let Next::At { trade, end } = next_trade(book, at) else {
+            return gain;
+        };
+        let n = lesser(lots_on(long, trade), left);
+        gain += gain::gain_of(long, settlement, trade.price, n);
+        left -= n;
+        at = end;
     }
+    gain
 }

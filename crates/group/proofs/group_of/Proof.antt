@@ -1,21 +1,21 @@
 -- `group::group_of` meets its contract: the sums over the trades say what the group comes to.
 -- Assumes nothing.
-use Prim.Native.Nat.{ℕ, _-_, _*_, _^_, _≤_, _<_}
+use Prim.Native.Nat.{ℕ, _*_, _≤_}
 use mathlib.Core.Path.{_≡_, sym, ap, ap₂, _∙_}
 use mathlib.Core.List.{List}
 use mathlib.Core.Bool.{Bool}
 use native.Mathlib.Omega.{arith}
 use lib.ListN.{drop}
-use lib.IntN.{ℤ, pos, natAbs, _-ℤ_, +ℤ-idl}
+use lib.IntN.{ℤ, pos, natAbs}
 use mir.Syntax.{w64}
 use mir.Val.{SFits, toZ, ofZ}
 use Rattle.rules.specs.Fields.{Field, fieldsOf}
-use Rattle.rules.specs.Book.{net, netLong}
+use Rattle.rules.specs.Book.{net}
 use Rattle.rules.specs.Standing.{standingAt}
-use Rattle.laws.specs.Exact.{of-int, op-fits, of-op}
+use Rattle.laws.specs.Exact.{of-int}
 use Rattle.trades.specs.declared.TradesAt.the-variants.{Closed}
-use Rattle.trades.specs.Trades.{tradesFrom, takenFrom, gainIn}
-use Rattle.trades.proofs.Oldest.{oldestFrom, taken-gain}
+use Rattle.trades.specs.Trades.{noneYet, tradesFrom}
+use Rattle.trades.specs.Walk.{newestIn}
 use Rattle.group.specs.Group.{closedAt}
 use Rattle.group.proofs.GroupMeans.{summed, group-refused, group-uncovered, total, total-size, group-closed}
 use borrow.Author.Needs.{needs}
@@ -33,7 +33,7 @@ module _ (c : tie.After-read-trades) where
   summed-is : summed (start .args .terms) (start .args .position) (start .args .place) (start .args .first) fields ≡ c .read-trades .result
   summed-is =
       sym (c .read-trades .ensures
-      ∙ ap (λ (b : Bool). tradesFrom b (start .args .terms .settlement) (start .args .first) 0 (pos 0) fields) (c .before .net-long .ensures))
+      ∙ ap (λ (b : Bool). tradesFrom b (start .args .terms .settlement) (start .args .first) 0 (pos 0) noneYet fields) (c .before .net-long .ensures))
 
 -- they end the group
 module _ (c : tie.After-at) where
@@ -46,53 +46,47 @@ module _ (c : tie.After-at) where
   abbrev gain : ℤ
   gain = c .at .given .0 .1 .1 .0
 
-  closed : summed (start (c .before .before) .args .terms) (start (c .before .before) .args .position) (start (c .before .before) .args .place) (start (c .before .before) .args .first) (fields (c .before .before)) ≡ Closed place opened gain
+  abbrev ordered : Bool
+  ordered = c .at .given .0 .1 .1 .1 .0
+
+  closed : summed (start (c .before .before) .args .terms) (start (c .before .before) .args .position) (start (c .before .before) .args .place) (start (c .before .before) .args .first) (fields (c .before .before)) ≡ Closed place opened gain ordered
   closed = summed-is (c .before .before) ∙ c .at .given .1
 
--- the total gain is exact
-module _ (c : tie.After-oldest-gain) where
+-- the trades cover the net position
+module _ (c : tie.Else1) where
   abbrev ended : tie.After-at
-  ended = c .before .before .before .before .before .before
+  ended = c .before .before .before .before
 
   abbrev begun : tie.Start
   begun = start (ended .before .before)
 
+  net-is : c .before .before .net-of .result .0 ≡ net (begun .args .position)
+  net-is = omega (arith, c .before .before .net-of .ensures)
+
   covers : net (begun .args .position) ≤ opened ended
-  covers = omega (arith, c .before .before .if1 .left, c .before .before .before .before .net-of .ensures)
-
-  abbrev owed : ℤ
-  owed = total (begun .args .terms) (begun .args .position) (begun .args .place) (begun .args .first) (fields (ended .before .before)) (place ended) (opened ended) (gain ended) (closed ended) covers
-
-  oldest-is : c .oldest-gain .result ≡ oldestFrom (netLong (begun .args .position)) (begun .args .terms .settlement) (opened ended - net (begun .args .position)) (fields (ended .before .before))
-  oldest-is =
-      let a = begun .args in
-      let fs = fields (ended .before .before) in
-      c .oldest-gain .ensures
-      ∙ ap₂ (λ (b : Bool) (n : ℕ). gainIn (takenFrom b (a .terms .settlement) (opened ended - n) (a .first) 0 (pos 0) fs))
-      (ended .before .before .before .net-long .ensures)
-      (c .before .before .before .before .net-of .ensures)
-      ∙ taken-gain (netLong (a .position)) (a .terms .settlement) fs (opened ended - net (a .position)) (a .first) 0 (pos 0) (a .first) 0 (pos 0) (place ended) (opened ended) (gain ended) (closed ended) (omega arith)
-      ∙ +ℤ-idl (oldestFrom (netLong (a .position)) (a .terms .settlement) (opened ended - net (a .position)) fs)
-
-  size : natAbs owed ≤ 9999999 * net (begun .args .position)
-  size =
-      total-size (begun .args .terms) (begun .args .position) (begun .args .place) (begun .args .first) (fields (ended .before .before)) (place ended) (opened ended) (gain ended) (closed ended) covers
-      (begun .pre .1 .0 .settlement)
+  covers = omega (arith, c .if1 .left, c .before .before .net-of .ensures)
 
   gain-fits : SFits w64 (gain ended)
   gain-fits = search needs
 
-  oldest-fits : SFits w64 (c .oldest-gain .result)
-  oldest-fits = search needs
+  -- and the total gain is that of the newest lots
+  abbrev owed : ℤ
+  owed = total (begun .args .terms) (begun .args .position) (begun .args .place) (begun .args .first) (fields (ended .before .before))
 
-  taken-off : gain ended -ℤ c .oldest-gain .result ≡ owed
-  taken-off = ap (λ (z : ℤ). gain ended -ℤ z) oldest-is
+  size : natAbs owed ≤ 9999999 * net (begun .args .position)
+  size =
+      total-size (begun .args .terms) (begun .args .position) (begun .args .place) (begun .args .first) (fields (ended .before .before)) (place ended) (opened ended) (gain ended) (ordered ended) (closed ended)
+      (begun .pre .1 .0 .settlement)
 
-  room : natAbs (gain ended -ℤ c .oldest-gain .result) < 2 ^ 63
-  room = rw taken-off (omega (arith, size, begun .pre .1 .1 .long, begun .pre .1 .1 .short))
+total-is : (c : tie.After-total-gain) → c .total-gain .result ≡ owed (c .before)
+total-is c =
+    let e = c .before in
+    let a = begun e .args in
+    c .total-gain .ensures
+    ∙ ap₂ (λ (b : Bool) (n : ℕ). newestIn b (a .terms .settlement) n (a .book .now) (a .first)) (ended e .before .before .before .net-long .ensures) (net-is e)
 
-  exact : toZ w64 (ofZ w64 (toZ w64 (ofZ w64 (gain ended)) -ℤ toZ w64 (ofZ w64 (c .oldest-gain .result)))) ≡ owed
-  exact = of-op (of-int (gain ended) gain-fits) (of-int (c .oldest-gain .result) oldest-fits) _-ℤ_ room .num ∙ taken-off
+exact : (c : tie.After-total-gain) → toZ w64 (ofZ w64 (c .total-gain .result)) ≡ owed (c .before)
+exact c = let fits : SFits w64 (c .total-gain .result) = search needs in of-int (c .total-gain .result) fits .num ∙ total-is c
 
 net-long-requires : tie.Need-net-long-requires
 net-long-requires c κs = search needs
@@ -110,17 +104,28 @@ returns : tie.Need-returns
 returns c =
     let x = c .before .before .before .before in
     let a = start (x .before .before) .args in
-    group-uncovered (a .terms) (a .position) (a .place) (a .first) (fields (x .before .before)) (place x) (opened x) (gain x) (closed x) (omega (arith, c .if1 .taken, c .before .before .net-of .ensures))
+    group-uncovered (a .terms) (a .position) (a .place) (a .first) (fields (x .before .before)) (place x) (opened x) (gain x) (ordered x) (closed x) (omega (arith, c .if1 .taken, c .before .before .net-of .ensures))
 
-oldest-gain-requires : tie.Need-oldest-gain-requires
-oldest-gain-requires c κs = search needs
-
-sub-closed-at : tie.Need-sub-closed-at
-sub-closed-at c = op-fits (of-int (gain (ended c)) (gain-fits c)) (of-int (c .oldest-gain .result) (oldest-fits c)) _-ℤ_ (room c)
+total-gain-requires : tie.Need-total-gain-requires
+total-gain-requires c κs =
+    let s = begun c in
+    let a = s .args in
+    let e = ended c in (
+      s .pre .0,
+      (
+        s .pre .1 .0 .settlement,
+        record {
+          place = place e;
+          reads = sym (e .before .before .read-trades .ensures) ∙ e .at .given .1 ∙ ap (λ (z : ℤ). Closed (place e) (opened e) z (ordered e)) (sym (of-int (gain e) (gain-fits c) .num));
+          covers = omega (arith, covers c, net-is c);
+          few = omega (arith, net-is c, s .pre .1 .1 .long, s .pre .1 .1 .short);
+        },
+      ),
+    )
 
 closed-at-requires : tie.Need-closed-at-requires
 closed-at-requires c κs =
-    let s = begun c in
+    let s = begun (c .before) in
     let t = s .pre .1 .0 in
     let h = s .pre .1 .1 in
     record {
@@ -130,7 +135,7 @@ closed-at-requires c κs =
       edge2 = t .edge2;
       long = h .long;
       short = h .short;
-      total = rw (exact c) (omega (arith, size c, h .long, h .short));
+      total = rw (exact c) (omega (arith, size (c .before), h .long, h .short));
     }
 
 enum-known-r : tie.Need-enum-known-r
@@ -139,9 +144,10 @@ enum-known-r c = search needs
 returns-2 : tie.Need-returns-2
 returns-2 c code =
     let b = c .before in
-    let a = begun b .args in
-    c .closed-at .ensures ∙ ap (λ (z : ℤ). closedAt (standingAt (a .terms) (a .position) z) (a .position) (place (ended b))) (exact b)
-    ∙ group-closed (a .terms) (a .position) (a .place) (a .first) (fields (ended b .before .before)) (place (ended b)) (opened (ended b)) (gain (ended b)) (closed (ended b)) (covers b) code
+    let e = ended (b .before) in
+    let a = begun (b .before) .args in
+    c .closed-at .ensures ∙ ap (λ (z : ℤ). closedAt (standingAt (a .terms) (a .position) z) (a .position) (place e)) (exact b)
+    ∙ group-closed (a .terms) (a .position) (a .place) (a .first) (fields (e .before .before)) (place e) (opened e) (gain e) (ordered e) (closed e) (covers (b .before)) code
 
 returns-3 : tie.Need-returns-3
 returns-3 c =
@@ -158,8 +164,7 @@ group-of-spec =
     enum-known-at
     net-of-requires
     returns
-    oldest-gain-requires
-    sub-closed-at
+    total-gain-requires
     closed-at-requires
     enum-known-r
     returns-2

@@ -1,0 +1,4 @@
+-- What the proofs share.
+pub mod Counting
+pub mod Spanned
+pub mod Joined
