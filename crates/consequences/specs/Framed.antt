@@ -60,7 +60,7 @@ field-stands (x ∷ a ∷ b ∷ u) t v e = go (eqb (length u) (a * 256 + b)) ref
 pub field-framed : (tag : Char) (v : List ℕ) → Framed (field tag v) (Whole (code tag) v ∷ [])
 field-framed tag v = field-stands (field tag v) (code tag) v (rw (eq-eqb (length v) (length v / 256 * 256 + length v % 256) (omega arith)) refl) .framed
 
-cut-none : (n : ℕ) → cutIn n [] ≡ []
+pub cut-none : (n : ℕ) → cutIn n [] ≡ []
 cut-none zero = refl
 cut-none (suc n) = refl
 
@@ -86,7 +86,7 @@ pub fields-cuts : (s : List ℕ) → fieldsOf s ≡ map fieldIn (cutIn (length s
 unfolding fieldsOf
 fields-cuts s = cuts-are (length s) s (omega arith)
 
-cuts-joined : (n : ℕ) (s : List ℕ) → length s ≤ n → joined (λ k. k) (cutIn n s) ≡ s
+pub cuts-joined : (n : ℕ) (s : List ℕ) → length s ≤ n → joined (λ k. k) (cutIn n s) ≡ s
 cuts-joined zero [] h = refl
 cuts-joined zero (x ∷ s) h = absurd (omega arith)
 cuts-joined (suc n) [] h = refl

@@ -1,5 +1,7 @@
 -- Theorems about whole books and outcomes, a file for each idea, in the order in which they rest on one another; first demand 3's definitions.
 pub mod Rearranged
+pub mod RisingIndices
+pub mod Reordered
 pub mod Alike
 pub mod Picks
 pub mod Chosen
@@ -20,3 +22,8 @@ pub mod Accepted
 pub mod Rearrange
 pub mod ReportLength
 pub mod Cut
+pub mod Traded
+pub mod Retrade
+pub mod WholeCuts
+pub mod Same
+pub mod Reindexed

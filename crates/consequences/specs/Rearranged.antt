@@ -11,6 +11,15 @@ use Rattle.rules.specs.declared.Standing.the-variants.{Neither}
 use Rattle.rules.specs.Text.{is}
 use Rattle.rules.specs.Report.{joined}
 use Rattle.rules.specs.Cascade.{Line}
+use Rattle.rules.specs.declared.Trade.{Trade}
+use Rattle.rules.specs.declared.Opening.{Opening}
+use Rattle.rules.specs.declared.Opening.the-variants.{Made}
+use Rattle.rules.specs.declared.Opening.the-variants.{Comma as CommaIn}
+use Rattle.rules.specs.declared.Opening.the-variants.{Malformed as NoTrade}
+use Rattle.rules.specs.Figures.{fen, lots}
+use Rattle.rules.specs.Stamp.{stamp}
+use Rattle.rules.specs.Opening.{openingOf}
+use Rattle.order.specs.Order.{Rearranged as InOtherOrder}
 
 -- the bytes of each field as they stand, one field after the other
 abbrev pub cutIn : ℕ → List ℕ → List (List ℕ)
@@ -50,9 +59,38 @@ partsOf s = partsIn (cutIn (length s) s)
 abbrev pub picked : {A : Type 0} → A → List A → List ℕ → List A
 picked none l is = map (λ i. getD l i none) is
 
+-- a book with other groups between its terms and its end
+unfoldable pub regrouped : List ℕ → List (List ℕ) → List ℕ
+regrouped s gs = together (record { terms = partsOf s .terms; groups = gs; end = partsOf s .end })
+
 -- the book of some of its customers, by their indices in the book, in any order
-unfoldable pub rearranged : List ℕ → List ℕ → List ℕ
-rearranged s is = together (record { terms = partsOf s .terms; groups = picked [] (partsOf s .groups) is; end = partsOf s .end })
+abbrev pub rearranged : List ℕ → List ℕ → List ℕ
+rearranged s is = regrouped s (picked [] (partsOf s .groups) is)
+
+-- Request [2]: "Demand 3 now lets a customer's own trades be rearranged too, so long as trades of equal day and minute keep their order."
+-- A group's fields are C, K, H and Q, and then its trades
+abbrev pub frontOf : List ℕ → List (List ℕ)
+frontOf g = take 4 (cutIn (length g) g)
+
+abbrev pub tradesOf : List ℕ → List (List ℕ)
+tradesOf g = drop 4 (cutIn (length g) g)
+
+abbrev pub tradeIn : Opening → Trade
+tradeIn (Made t) = t
+tradeIn CommaIn = record { bought = false; price = fen 0; lots = lots 0; stamp = stamp 0 }
+tradeIn NoTrade = record { bought = false; price = fen 0; lots = lots 0; stamp = stamp 0 }
+
+-- the trade that a field's bytes write, and when it was made
+abbrev pub tradeAt : List ℕ → Trade
+tradeAt f = tradeIn (openingOf (is "B" (getD f 0 0)) (drop 3 f))
+
+abbrev pub madeAt : List ℕ → ℕ
+madeAt f = tradeAt f .stamp .0
+
+-- one group is another with its trades in another order: of every day and minute the same fields, in the same order
+pub record Retraded (g h : List ℕ) : Type 0 where
+  pub front : frontOf g ≡ frontOf h
+  pub trades : InOtherOrder madeAt (tradesOf g) (tradesOf h)
 
 abbrev pub among : ℕ → List ℕ → Bool
 among i [] = false

@@ -12,7 +12,9 @@ use denote.Triple.Entry.{Args}
 use denote.Triple.Clauses.{AtExit}
 use native.Mathlib.Omega.{arith}
 use Rattle.rules.specs.Text.{bytes}
-use Rattle.rules.specs.Figures.{figureOf, openingOf}
+use Rattle.rules.specs.Figures.{figureOf}
+use Rattle.rules.specs.Stamp.{stampOf}
+use Rattle.rules.specs.Opening.{openingOf}
 use Rattle.rules.specs.Codes.{isCode}
 use Rattle.rules.specs.Fields.{fieldsOf}
 use Rattle.rules.specs.Book.{within, step, judge}
@@ -63,7 +65,7 @@ twice = book gold (idle ∷ idle ∷ [])
 
 -- the listing's report, so that a wrong one differs in its one respect
 pub right-allowed : Holds "the listing" (allowed (reports "the listing" right))
-unfolding answer figureOf openingOf isCode fieldsOf within step judge gainFrom totalGain standing leftOver rank shareOf share lineOf quantity after cascade outcome digits reported report
+unfolding answer figureOf openingOf stampOf isCode fieldsOf within step judge gainFrom totalGain standing leftOver rank shareOf share lineOf quantity after cascade outcome digits reported report
 right-allowed = so
 
 abbrev pub wrong : List Tried
@@ -91,7 +93,7 @@ wrong =
     ∷ []
 
 pub contradicted : Contradicted wrong
-unfolding answer figureOf openingOf isCode fieldsOf within step judge gainFrom totalGain standing leftOver rank shareOf share lineOf quantity after cascade outcome digits reported report
+unfolding answer figureOf openingOf stampOf isCode fieldsOf within step judge gainFrom totalGain standing leftOver rank shareOf share lineOf quantity after cascade outcome digits reported report
 contradicted = none-given wrong (so & so & so & so & so & so & so & so & so & so & so & so & so & so & so & so & so & so & so & so & done)
 
 -- What the program's `list` leaves at the front of the buffer, as many bytes as it says, is the listing: a refused book is not listed as one

@@ -9,7 +9,9 @@ use lib.ListN.{getD}
 use native.Mathlib.Omega.{arith}
 use Rattle.rules.specs.declared.Standing.the-variants.{Neither}
 use Rattle.rules.specs.Text.{bytes}
-use Rattle.rules.specs.Figures.{figureOf, openingOf}
+use Rattle.rules.specs.Figures.{figureOf}
+use Rattle.rules.specs.Stamp.{stampOf}
+use Rattle.rules.specs.Opening.{openingOf}
 use Rattle.rules.specs.Codes.{isCode, same}
 use Rattle.rules.specs.Fields.{fieldsOf}
 use Rattle.rules.specs.Book.{within, step, Verdict, Refused, Accepted, judge}
@@ -18,9 +20,11 @@ use Rattle.rules.specs.Division.{oneIf, leftOver, rank, shareOf, share}
 use Rattle.rules.specs.Cascade.{Line, lineOf, quantity, after, cascade, outcome}
 use Rattle.rules.specs.Report.{digits, reported, report, listing}
 use Rattle.rules.specs.Answer.{answer}
-use Rattle.consequences.specs.Rearranged.{partsOf, rearranged, among, nobody, Chosen}
+use Rattle.consequences.specs.Rearranged.{partsOf, regrouped, rearranged, among, nobody, Chosen}
 use Rattle.cases.specs.Tables.{gold, bought, sold, customer, book}
 use Rattle.promises.specs.Outcomes.{outcomeOf}
+use Rattle.promises.specs.Demand3.{Stays}
+use Rattle.promises.specs.ByIndices.{customers-alone}
 
 abbrev pub six : List ℕ
 six =
@@ -61,7 +65,7 @@ pub record Shown : Type 0 where
   pub after : listing (rearranged six five) ≡ bytes "total 9\nleft 1\nP1 P 6\nP2 P 3\nW3 3 1\nW1 1 3\nW2 2 5\n"
 
 six-chosen : Chosen (outcomeOf six .lines) five
-unfolding outcomeOf figureOf openingOf isCode fieldsOf within step judge gainFrom totalGain standing leftOver rank shareOf share lineOf quantity after cascade outcome
+unfolding outcomeOf figureOf openingOf stampOf isCode fieldsOf within step judge gainFrom totalGain standing leftOver rank shareOf share lineOf quantity after cascade outcome
 six-chosen =
     record {
       below = (omega arith, (omega arith, (omega arith, (omega arith, (omega arith, tt)))));
@@ -79,5 +83,9 @@ six-chosen =
     out (suc (suc (suc (suc (suc (suc i)))))) h e = absurd (omega arith)
 
 pub six-shown : Shown
-unfolding answer report reported rearranged partsOf outcomeOf figureOf openingOf isCode fieldsOf within step judge gainFrom totalGain standing leftOver rank shareOf share lineOf quantity after cascade outcome digits listing
+unfolding answer report reported regrouped partsOf outcomeOf figureOf openingOf stampOf isCode fieldsOf within step judge gainFrom totalGain standing leftOver rank shareOf share lineOf quantity after cascade outcome digits listing
 six-shown = record { accepted = refl; chosen = six-chosen; other = refl; before = refl; after = refl; by-row = refl; by-other-row = refl }
+
+-- and so demand 3 says
+pub six-stay : Stays six (rearranged six five) five 200
+six-stay = customers-alone six 200 (six-shown .accepted) five (six-shown .chosen)

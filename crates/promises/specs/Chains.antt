@@ -11,10 +11,12 @@ use Rattle.rules.specs.declared.Figure.the-variants.{Value, Comma, Malformed}
 use Rattle.rules.specs.declared.Opening.the-variants.{Comma as CommaIn}
 use Rattle.rules.specs.Refusal as refusal
 use Rattle.rules.specs.Text.{is, bytes}
-use Rattle.rules.specs.Figures.{fen, lots, priceForm, tradedForm, has, number, figureOf, openingOf, tradeFrom, upToBlank, afterBlank}
+use Rattle.rules.specs.Figures.{numberAfter, fen, lots, priceForm, tradedForm, has, number, figureOf}
+use Rattle.rules.specs.Stamp.{stamp, stampNumber, stampOf}
+use Rattle.rules.specs.Opening.{openingOf, tradeFrom, upToBlank, afterBlank}
 use Rattle.rules.specs.Codes.{same}
 use Rattle.rules.specs.Book.{Step, Stop, refuse, figure, trade, lock}
-use Rattle.promises.specs.Reasons.{isFigure, isTrade}
+use Rattle.promises.specs.Reasons.{isFigure, isStamp, isTrade}
 
 module _ {A : Type 0} where
   pub figure-chain : (form : Form) (v : List ℕ) (next : ℕ → Step A) → figure (figureOf form v) next ≡ refuse refusal.comma (has "," v) (refuse refusal.malformed (not (isFigure form v)) (next (number form v)))
@@ -53,27 +55,42 @@ comma-after (x ∷ v) h = go (is " " x) (is "," x) h (comma-after v)
     go true false k ih = k
     go false false k ih = ih k
 
+-- what stands behind the price, and behind the lots
+abbrev behindPrice : List ℕ → List ℕ
+behindPrice v = afterBlank v
+
+abbrev behindLots : List ℕ → List ℕ
+behindLots v = afterBlank (afterBlank v)
+
+abbrev madeAt : List ℕ → ℕ
+madeAt v = stampNumber (numberAfter 0 (upToBlank (behindLots v))) (numberAfter 0 (afterBlank (behindLots v)))
+
 abbrev pub tradeRead : Bool → List ℕ → Trade
-tradeRead bought v = record { bought = bought; price = fen (number priceForm (upToBlank v)); lots = lots (number tradedForm (afterBlank v)) }
+tradeRead bought v =
+    record { bought = bought; price = fen (number priceForm (upToBlank v)); lots = lots (number tradedForm (upToBlank (behindPrice v))); stamp = stamp (madeAt v) }
 
 module _ {A : Type 0} where
   pub trade-chain :
       (bought : Bool) (v : List ℕ) (next : Trade → Step A) →
       trade (openingOf bought v) next ≡ refuse refusal.comma (has "," v) (refuse refusal.malformed (not (isTrade v)) (next (tradeRead bought v)))
-  unfolding figureOf openingOf
-  trade-chain bought v next = go (has "," v) (has "," (upToBlank v)) (has "," (afterBlank v)) (isFigure priceForm (upToBlank v)) (isFigure tradedForm (afterBlank v)) (comma-before v) (comma-after v)
+  unfolding figureOf openingOf stampOf
+  trade-chain bought v next =
+      go (has "," v) (has "," (upToBlank v)) (has "," (upToBlank (behindPrice v))) (isFigure priceForm (upToBlank v)) (isFigure tradedForm (upToBlank (behindPrice v)))
+      (isStamp (upToBlank (behindLots v)) (afterBlank (behindLots v))) (comma-before v) (λ h. comma-before (behindPrice v) (comma-after v h))
     where
-      go : (a b c p n : Bool) → (a ≡ false → b ≡ false) → (a ≡ false → c ≡ false) →
+      go : (a b c p n d : Bool) → (a ≡ false → b ≡ false) → (a ≡ false → c ≡ false) →
           trade (cond a CommaIn (tradeFrom bought
           (cond b Comma (cond p (Value (number priceForm (upToBlank v))) Malformed))
-          (cond c Comma (cond n (Value (number tradedForm (afterBlank v))) Malformed)))) next
-          ≡ refuse refusal.comma a (refuse refusal.malformed (not (p && n)) (next (tradeRead bought v)))
-      go true b c p n k l = refl
-      go false true c p n k l = absurd (true≢false (k refl))
-      go false false true p n k l = absurd (true≢false (l refl))
-      go false false false true true k l = refl
-      go false false false true false k l = refl
-      go false false false false n k l = refl
+          (cond c Comma (cond n (Value (number tradedForm (upToBlank (behindPrice v)))) Malformed))
+          (cond d (Value (madeAt v)) Malformed))) next
+          ≡ refuse refusal.comma a (refuse refusal.malformed (not (p && n && d)) (next (tradeRead bought v)))
+      go true b c p n d k l = refl
+      go false true c p n d k l = absurd (true≢false (k refl))
+      go false false true p n d k l = absurd (true≢false (l refl))
+      go false false false true true true k l = refl
+      go false false false true true false k l = refl
+      go false false false true false d k l = refl
+      go false false false false n d k l = refl
 
   -- 6 and 8 are asked of a value that is of its form
   pub last-chain : (m n : ℕ) (good b : Bool) (next : Step A) → refuse m (not good) (refuse n b next) ≡ refuse m (not good) (refuse n (good && b) next)

@@ -1,7 +1,8 @@
 -- Demand 3: "Rearrange an accepted book's customers, or take out those who are neither pending nor in a tier, or both: it is accepted too, with
--- the same report buffer, and everybody still in it has the same standing and lots, with the same total and residue."
+-- the same report buffer, and everybody still in it has the same standing and lots, with the same total and residue." And request [2]: "a
+-- customer's own trades be rearranged too, so long as trades of equal day and minute keep their order."
 -- Assumes nothing.
-use Prim.Native.Nat.{ℕ, _+_, _≤_, _<_}
+use Prim.Native.Nat.{ℕ, _≤_, _<_}
 use Prim.Native.Char.{code}
 use mathlib.Core.Path.{_≡_, refl, sym, ap, ap₂, _∙_}
 use mathlib.Core.List.{List, [], _∷_, _++_, map}
@@ -12,7 +13,8 @@ use Rattle.rules.specs.Book.{Customer}
 use Rattle.rules.specs.Cascade.{Outcome, lineOf, outcome}
 use Rattle.rules.specs.Report.{digits, field, joined, reported, report}
 use Rattle.rules.specs.Answer.{answer}
-use Rattle.consequences.specs.Rearranged.{partsOf, together, picked, rearranged, Below, nobody, Chosen}
+use Rattle.consequences.specs.Rearranged.{partsOf, together, picked, regrouped, nobody, Chosen, Retraded}
+use Rattle.laws.specs.All2.{All2}
 use Rattle.consequences.specs.Picks.{sum-chosen-le}
 use Rattle.consequences.specs.Lines.{lines-many, book-within}
 use Rattle.consequences.specs.Chosen.{pickedOf, chosen-after, outcome-chosen}
@@ -54,11 +56,11 @@ report-shorter o is c =
     )
 
 module _ (s : List ℕ) (room : ℕ) (f : Fits s room) where
-  outcome-is : outcomeOf s ≡ outcome (f .terms) (f .customers)
+  pub outcome-is : outcomeOf s ≡ outcome (f .terms) (f .customers)
   unfolding outcomeOf
   outcome-is = rw (f .judged)
 
-  module _ (is : List ℕ) (c : Chosen (outcome (f .terms) (f .customers) .lines) is) where
+  module _ (is : List ℕ) (c : Chosen (outcome (f .terms) (f .customers) .lines) is) (hs : List (List ℕ)) (r : All2 Retraded (picked [] (partsOf s .groups) is) hs) where
     some : List Customer
     some = picked noCustomer (f .customers) is
 
@@ -66,34 +68,36 @@ module _ (s : List ℕ) (room : ℕ) (f : Fits s room) where
     unfolding outcome some
     outcome-some = outcome-chosen (f .terms) (f .customers) noCustomer is (chosen-after (map (lineOf (f .terms)) (f .customers)) is c)
 
-    still-fits : Fits (rearranged s is) room
+    still-fits : Fits (regrouped s hs) room
     unfolding some
     still-fits =
         record {
           terms = f .terms;
           customers = some;
-          judged = rearranged-accepted s (f .terms) (f .customers) (f .judged) is (rw (lines-many (f .terms) (f .customers)) at (c .below)) (c .once) noCustomer;
+          judged = rearranged-accepted s (f .terms) (f .customers) (f .judged) is (rw (lines-many (f .terms) (f .customers)) at (c .below)) (c .once) noCustomer hs r;
           room-enough = rw outcome-some (omega (arith, report-shorter (outcome (f .terms) (f .customers)) is c, f .room-enough));
         }
 
-    outcome-now : outcomeOf (rearranged s is) ≡ outcome (f .terms) some
+    outcome-now : outcomeOf (regrouped s hs) ≡ outcome (f .terms) some
     unfolding outcomeOf still-fits
     outcome-now = rw (still-fits .judged)
 
-    stays : Stays s (rearranged s is) is room
+    stays : Stays s (regrouped s hs) is room
     unfolding still-fits
     stays =
-        let same : outcomeOf (rearranged s is) ≡ pickedOf (outcomeOf s) is = outcome-now ∙ outcome-some ∙ ap (λ (o : Outcome). pickedOf o is) (sym outcome-is) in
+        let same : outcomeOf (regrouped s hs) ≡ pickedOf (outcomeOf s) is = outcome-now ∙ outcome-some ∙ ap (λ (o : Outcome). pickedOf o is) (sym outcome-is) in
         record {
-          accepted = fits-accepted (rearranged s is) room still-fits;
+          accepted = fits-accepted (regrouped s hs) room still-fits;
           total = ap (λ (o : Outcome). o .total) same;
           residue = ap (λ (o : Outcome). o .residue) same;
           lines = ap (λ (o : Outcome). o .lines) same;
-          report = fits-report (rearranged s is) room still-fits;
+          report = fits-report (regrouped s hs) room still-fits;
         }
 
-pub demand-3 : (s : List ℕ) (room : ℕ) → answer s room .number ≡ 0 → (is : List ℕ) → Chosen (outcomeOf s .lines) is → Stays s (rearranged s is) is room
-demand-3 s room h is c = let f = accepted-fits s room h in stays s room f is (rw (outcome-is s room f) at c)
+-- the groups of some customers in some order, each with its trades in some order that keeps equal stamps as they are
+pub demand-3 : (s : List ℕ) (room : ℕ) → answer s room .number ≡ 0 → (is : List ℕ) → Chosen (outcomeOf s .lines) is →
+    (hs : List (List ℕ)) → All2 Retraded (picked [] (partsOf s .groups) is) hs → Stays s (regrouped s hs) is room
+demand-3 s room h is c hs r = let f = accepted-fits s room h in stays s room f is (rw (outcome-is s room f) at c) hs r
 
 -- the book's own groups
 pub accepted-parted : (s : List ℕ) (room : ℕ) → answer s room .number ≡ 0 → Parted s
@@ -117,20 +121,21 @@ accepted-parted s room h =
         (g .0, rw (outcome-is s room f, w .code) (g .1))
 
 -- The same of two calls with the same buffer, the second of the book rearranged
-pub record Rearranged (c d : Call) (is : List ℕ) : Type 0 where
-  pub book : bookOf d ≡ rearranged (bookOf c) is
+pub record Rearranged (c d : Call) (is : List ℕ) (hs : List (List ℕ)) : Type 0 where
+  pub trades : All2 Retraded (picked [] (partsOf (bookOf c) .groups) is) hs
+  pub book : bookOf d ≡ regrouped (bookOf c) hs
   pub buffer : lentTo d ≡ lentTo c
 
 abbrev pub stillIn : Call → List ℕ → List ℕ
 stillIn c is = report (pickedOf (outcomeOf (bookOf c)) is)
 
 pub demand-3-call :
-    (c d : Call) (is : List ℕ) → Chosen (outcomeOf (bookOf c) .lines) is → Rearranged c d is → c .answer .number ≡ 0 →
+    (c d : Call) (is : List ℕ) (hs : List (List ℕ)) → Chosen (outcomeOf (bookOf c) .lines) is → Rearranged c d is hs → c .answer .number ≡ 0 →
     (d .answer .number ≡ 0) × (leftBy d ≡ stillIn c is ++ drop (length (stillIn c is)) (lentTo d))
-demand-3-call c d is chosen same h =
-    let k = demand-3 (bookOf c) (length (lentTo c)) (sym (c .contract .number) ∙ h) is chosen in
-    let picked : outcomeOf (rearranged (bookOf c) is) ≡ pickedOf (outcomeOf (bookOf c)) is = outcomes _ _ (k .total) (k .residue) (k .lines) in
-    let asked : answer (bookOf d) (length (lentTo d)) ≡ answer (rearranged (bookOf c) is) (length (lentTo c)) = ap₂ (λ s b. answer s (length b)) (same .book) (same .buffer) in
+demand-3-call c d is hs chosen same h =
+    let k = demand-3 (bookOf c) (length (lentTo c)) (sym (c .contract .number) ∙ h) is chosen hs (same .trades) in
+    let picked : outcomeOf (regrouped (bookOf c) hs) ≡ pickedOf (outcomeOf (bookOf c)) is = outcomes _ _ (k .total) (k .residue) (k .lines) in
+    let asked : answer (bookOf d) (length (lentTo d)) ≡ answer (regrouped (bookOf c) hs) (length (lentTo c)) = ap₂ (λ s b. answer s (length b)) (same .book) (same .buffer) in
     (d .contract .number ∙ rw asked (k .accepted), d .contract .buffer ∙ rw (asked, k .report, picked) refl)
   where
     outcomes : (o p : Outcome) → o .total ≡ p .total → o .residue ≡ p .residue → o .lines ≡ p .lines → o ≡ p

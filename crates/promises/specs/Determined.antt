@@ -7,6 +7,7 @@ use contract.Lifetimes.{Lfts}
 use denote.Triple.Entry.{Args, Res}
 use denote.Triple.Clauses.{Ended, Lasts, AtExit, atExit}
 use Rattle.rules.specs.declared.Lots.{Lots}
+use Rattle.consequences.specs.Rearranged.{tradeIn}
 use Rattle.rules.proofs as rules
 use Rattle.figures.proofs as figures
 use Rattle.codes.proofs as codes
@@ -14,6 +15,8 @@ use Rattle.gain.proofs as gain
 use Rattle.fields.proofs as fields
 use Rattle.terms.proofs as terms
 use Rattle.trades.proofs as trades
+use Rattle.store.proofs as store
+use Rattle.newest.proofs as newest
 use Rattle.group.proofs as group
 use Rattle.command.proofs as command
 
@@ -41,6 +44,9 @@ read-figure κs a r q s t e f = (e ∙ sym f, refl)
 
 pub read-opening : Determined figures.read_opening.ended figures.read_opening.Reads.Learnt
 read-opening κs a r q s t e f = (e ∙ sym f, refl)
+
+pub read-again : Determined figures.read_again.ended figures.read_again.Reads.Learnt
+read-again κs a r q s t e f = (ap tradeIn (sym e ∙ f), refl)
 
 -- codes
 pub read-code : Determined codes.read_code.ended codes.read_code.Reads.Learnt
@@ -91,6 +97,20 @@ read-trades κs a r q s t e f = (e ∙ sym f, refl)
 
 pub oldest-gain : Determined trades.oldest_gain.ended trades.oldest_gain.Reads.Learnt
 oldest-gain κs a r q s t e f = (e ∙ sym f, refl)
+
+pub lots-on : Determined trades.lots_on.ended trades.lots_on.Reads.Learnt
+lots-on κs a r q s t e f = (e ∙ sym f, refl)
+
+pub next-trade : Determined trades.next_trade.ended trades.next_trade.Reads.Learnt
+next-trade κs a r q s t e f = (e ∙ sym f, refl)
+
+-- store
+pub stored-gain : Determined store.stored_gain.ended store.stored_gain.Reads.Learnt
+stored-gain κs a r q s t e f = (e ∙ sym f, refl)
+
+-- newest
+pub newest-gain : Determined newest.newest_gain.ended newest.newest_gain.Reads.Learnt
+newest-gain κs a r q s t e f = (e ∙ sym f, refl)
 
 -- group: whatever the code
 pub read-group : Determined group.read_group.ended group.read_group.Reads.Learnt

@@ -11,7 +11,9 @@ use Rattle.rules.specs.declared.Terms.{Terms}
 use Rattle.rules.specs.Refusal as refusal
 use Rattle.rules.specs.Limits.{longestBook}
 use Rattle.rules.specs.Text.{is, bytes}
-use Rattle.rules.specs.Figures.{fen, lots, priceForm, rateForm, heldForm, tradedForm, number, upToBlank, afterBlank}
+use Rattle.rules.specs.Figures.{numberAfter, fen, lots, priceForm, rateForm, heldForm, tradedForm, number}
+use Rattle.rules.specs.Stamp.{stamp, stampNumber}
+use Rattle.rules.specs.Opening.{upToBlank, afterBlank}
 use Rattle.rules.specs.Codes.{same}
 use Rattle.rules.specs.Book.{Customer, Group, Nobody, Open, DueK, DueH, DueQ, DueTrade, begun, held, traded}
 use Rattle.rules.specs.Book.{Due, AtTerm, InGroup, Term, DueD, DueS, DueL, DueU, DueV, noTerms, locked, settled, withLoss, withEdge1, withEdge2}
@@ -34,7 +36,14 @@ withPart (Open DueK c) t v = Open DueH (held c (record { long = lots (number hel
 withPart (Open DueH c) t v = Open DueQ (held c (record { long = c .position .long; short = lots (number heldForm v); unfilled = c .position .unfilled }))
 withPart (Open DueQ c) t v = Open DueTrade (held c (record { long = c .position .long; short = c .position .short; unfilled = lots (number heldForm v) }))
 withPart (Open DueTrade c) t v =
-    Open DueTrade (traded c (record { bought = is "B" t; price = fen (number priceForm (upToBlank v)); lots = lots (number tradedForm (afterBlank v)) }))
+    let rest = afterBlank v in
+    let made = afterBlank rest in
+    Open DueTrade (traded c (record {
+      bought = is "B" t;
+      price = fen (number priceForm (upToBlank v));
+      lots = lots (number tradedForm (upToBlank rest));
+      stamp = stamp (stampNumber (numberAfter 0 (upToBlank made)) (numberAfter 0 (afterBlank made)));
+    }))
 
 abbrev pub leads : Due → ℕ → List ℕ → Stage
 leads (AtTerm term ts) t v = Reading (withTerm term ts v)

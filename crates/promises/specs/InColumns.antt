@@ -1,35 +1,23 @@
--- The demands of a call for columns (request [10]). 1: "Refused: no place of any run is altered", and number and place are the table's, with 11 for a run of too
--- few places. 2: accepted, the view of the customers stands in the runs' first places, and "the rest as they were". 3: rearranged customers have the same
--- values at their new places.
+-- Demands 1 and 2 of a call for columns (request [10]). 1: "Refused: no place of any run is altered", and number and place are the table's, with 11 for a run
+-- of too few places. 2: accepted, the view of the customers stands in the runs' first places, and "the rest as they were".
 -- Assumes nothing.
-use Prim.Native.Nat.{ℕ, _≤_, _<_}
-use mathlib.Core.Path.{_≡_, refl, sym, ap, ap₂, _∙_}
+use Prim.Native.Nat.{ℕ, _<_}
+use mathlib.Core.Path.{_≡_, refl, sym, ap, _∙_}
 use mathlib.Core.Bool.{true}
-use mathlib.Core.List.{List, [], _∷_, _++_, map, map-map}
-use lib.ListN.{length, drop, List·getD-append, length-map}
+use mathlib.Core.List.{List, _++_}
+use lib.ListN.{length, drop}
 use lib.Dec.{ltb}
 use borrow.Author.Tests.{ltb-true, ltb-false}
 use native.Mathlib.Omega.{arith}
 use Rattle.rules.specs.declared.Terms.{Terms}
 use Rattle.rules.specs.Refusal as refusal
 use Rattle.rules.specs.Book.{Customer, Verdict, Refused, Accepted, judge}
-use Rattle.rules.specs.Cascade.{Line, Outcome, lineOf, pendingOf, outcome}
-use Rattle.rules.specs.Report.{letter}
 use Rattle.rules.specs.Answer.{refused, lent}
 use Rattle.rules.specs.Answer.{Answer as Answer01}
 use Rattle.laws.specs.ByTest.{by-test}
-use Rattle.laws.specs.Sums.{sum-one}
-use Rattle.consequences.specs.Rearranged.{picked, rearranged, Below, nobody, Chosen}
-use Rattle.consequences.specs.Picks.{length-picked, picked-map, sum-chosen-le}
-use Rattle.consequences.specs.Lines.{lines-many}
-use Rattle.consequences.specs.Chosen.{chosen-after, outcome-chosen}
-use Rattle.consequences.specs.Rearrange.{rearranged-accepted}
-use Rattle.cascade.specs.State.{offsetOf}
-use Rattle.columns.specs.Layouts.{standingOf, offeredOf}
 use Rattle.columns.specs.View.{Runs, runs, view, placesOf, viewedOf, viewed}
 use Rattle.promises.specs.Given.{Given}
 use Rattle.promises.specs.Refused.{refused-exactly}
-use Rattle.promises.specs.Outcomes.{noCustomer, outcomeOf}
 use Rattle.promises.specs.ViewCall.{ViewCall, bookOf, lentTo, leftBy, of-contract, Seen, seen, standings-many, offered-many, pending-many, offsets-many, seen-answer, seen-run}
 
 -- Demand 2
@@ -41,7 +29,7 @@ pub record InRuns (c : ViewCall) (terms : Terms) (customers : List Customer) : T
   pub pending : leftBy c .pending ≡ view terms customers .pending ++ drop (length customers) (lentTo c .pending)
   pub offsets : leftBy c .offsets ≡ view terms customers .offsets ++ drop (length customers) (lentTo c .offsets)
 
-in-runs : (c : ViewCall) (f : Seen (bookOf c) (placesOf (lentTo c))) → InRuns c (f .terms) (f .customers)
+pub in-runs : (c : ViewCall) (f : Seen (bookOf c) (placesOf (lentTo c))) → InRuns c (f .terms) (f .customers)
 in-runs c f =
     let s = bookOf c in
     let room = placesOf (lentTo c) in
@@ -56,7 +44,7 @@ in-runs c f =
       offsets = v .offsets ∙ seen-run s room f (λ v. v .offsets) (offsets-many (f .terms) (f .customers)) _;
     }
 
-seen-by : (c : ViewCall) → c .answer .number ≡ 0 → Seen (bookOf c) (placesOf (lentTo c))
+pub seen-by : (c : ViewCall) → c .answer .number ≡ 0 → Seen (bookOf c) (placesOf (lentTo c))
 seen-by c h = seen (bookOf c) (placesOf (lentTo c)) (sym (of-contract c .number) ∙ h)
 
 pub demand-2-columns : (c : ViewCall) → c .answer .number ≡ 0 → (f : Seen (bookOf c) (placesOf (lentTo c))) × InRuns c (f .terms) (f .customers)
@@ -127,113 +115,3 @@ module _ (c : ViewCall) where
           (λ q. let f : Seen s room = record { terms = terms; customers = cs; judged = e; enough = ltb-false _ _ q } in
           let z : c .answer .number ≡ 0 = of-contract c .number ∙ ap (λ (a : Answer01). a .number) (seen-answer s room f (λ v. v .standings) (standings-many terms cs)) in
           absurd (omega arith))
-
--- Demand 3, of two calls: the second book is the first with its customers rearranged, or some of standing N left out, and its runs have no fewer places
-pub record Moved (c d : ViewCall) (is : List ℕ) : Type 0 where
-  pub book : bookOf d ≡ rearranged (bookOf c) is
-  pub places : placesOf (lentTo c) ≤ placesOf (lentTo d)
-
--- the second call is accepted too, and leaves in each run the values that the first left there, each at its customer's new place
-pub record SameValues (c d : ViewCall) (is : List ℕ) : Type 0 where
-  pub accepted : d .answer .number ≡ 0
-  pub size : d .answer .length ≡ length is
-  pub standings : leftBy d .standings ≡ picked 0 (leftBy c .standings) is ++ drop (length is) (lentTo d .standings)
-  pub offered : leftBy d .offered ≡ picked 0 (leftBy c .offered) is ++ drop (length is) (lentTo d .offered)
-  pub pending : leftBy d .pending ≡ picked 0 (leftBy c .pending) is ++ drop (length is) (lentTo d .pending)
-  pub offsets : leftBy d .offsets ≡ picked 0 (leftBy c .offsets) is ++ drop (length is) (lentTo d .offsets)
-
-picked-front : (l m is : List ℕ) → Below (length l) is → picked 0 (l ++ m) is ≡ picked 0 l is
-picked-front l m [] b = refl
-picked-front l m (i ∷ is) b = rw (List·getD-append l m 0 i (b .0), picked-front l m is (b .1))
-
--- the view of customers that are picked is picked from the view
-module _ (terms : Terms) (cs : List Customer) (is : List ℕ) (chosen : Chosen (outcome terms cs .lines) is) where
-  abbrev some : List Customer
-  some = picked noCustomer cs is
-
-  abbrev lines : List Line
-  lines = map (lineOf terms) cs
-
-  below : Below (length cs) is
-  below = rw (lines-many terms cs) at (chosen .below)
-
-  values-picked : (f : Line → ℕ) → map f (map (lineOf terms) some) ≡ picked 0 (map f lines) is
-  values-picked f =
-      sym (picked-map f nobody 0 lines is (rw (length-map cs (lineOf terms)) below) ∙ ap (map f) (picked-map (lineOf terms) noCustomer nobody cs is below))
-
-  standings-picked : view terms some .standings ≡ picked 0 (view terms cs .standings) is
-  unfolding view
-  standings-picked =
-      map-map letter standingOf (map (lineOf terms) some)
-      ∙ values-picked (λ l. letter (l .standing))
-      ∙ sym (ap (λ (l : List ℕ). picked 0 l is) (map-map letter standingOf lines))
-
-  offered-picked : view terms some .offered ≡ picked 0 (view terms cs .offered) is
-  unfolding view
-  offered-picked = values-picked offeredOf
-
-  pending-picked : view terms some .pending ≡ picked 0 (view terms cs .pending) is
-  unfolding view
-  pending-picked = values-picked pendingOf
-
-  offsets-picked : view terms some .offsets ≡ picked 0 (view terms cs .offsets) is
-  unfolding view outcome
-  offsets-picked =
-      ap (λ (o : Outcome). map offsetOf (o .lines)) (outcome-chosen terms cs noCustomer is (chosen-after lines is chosen))
-      ∙ sym (picked-map offsetOf nobody 0 (outcome terms cs .lines) is (chosen .below))
-
-module _ (c d : ViewCall) (is : List ℕ) (same : Moved c d is) (f : Seen (bookOf c) (placesOf (lentTo c))) (chosen : Chosen (outcome (f .terms) (f .customers) .lines) is) where
-  abbrev terms : Terms
-  terms = f .terms
-
-  abbrev cs : List Customer
-  cs = f .customers
-
-  abbrev now : List Customer
-  now = some terms cs is chosen
-
-  still-seen : Seen (bookOf d) (placesOf (lentTo d))
-  still-seen =
-      record {
-        terms = terms;
-        customers = now;
-        judged = ap judge (same .book) ∙ rearranged-accepted (bookOf c) terms cs (f .judged) is (below terms cs is chosen) (chosen .once) noCustomer;
-        enough = omega (
-          arith,
-          sum-chosen-le (λ c. 1) noCustomer cs is (below terms cs is chosen) (chosen .once),
-          sum-one cs,
-          sum-one now,
-          f .enough,
-          same .places,
-        );
-      }
-
-  -- one run
-  moved : (run : Runs → List ℕ) → length (run (view terms cs)) ≡ length cs → run (view terms now) ≡ picked 0 (run (view terms cs)) is →
-      run (leftBy c) ≡ run (view terms cs) ++ drop (length cs) (run (lentTo c)) → run (leftBy d) ≡ run (view terms now) ++ drop (length now) (run (lentTo d)) →
-      run (leftBy d) ≡ picked 0 (run (leftBy c)) is ++ drop (length is) (run (lentTo d))
-  moved run many same-picked before after =
-      let front = picked-front (run (view terms cs)) (drop (length cs) (run (lentTo c))) is (rw many (below terms cs is chosen)) in
-      after
-      ∙ ap₂ (λ (l : List ℕ) (m : ℕ). l ++ drop m (run (lentTo d)))
-      (same-picked ∙ sym (ap (λ (l : List ℕ). picked 0 l is) before ∙ front))
-      (length-picked noCustomer cs is)
-
-  same-values : SameValues c d is
-  unfolding still-seen
-  same-values =
-      let v = in-runs c f in
-      let w = in-runs d still-seen in
-      let e = seen-answer (bookOf d) (placesOf (lentTo d)) still-seen (λ v. v .standings) (standings-many terms now) in
-      record {
-        accepted = of-contract d .number ∙ ap (λ (a : Answer01). a .number) e;
-        size = w .size ∙ length-picked noCustomer cs is;
-        standings = moved (λ v. v .standings) (standings-many terms cs) (standings-picked terms cs is chosen) (v .standings) (w .standings);
-        offered = moved (λ v. v .offered) (offered-many terms cs) (offered-picked terms cs is chosen) (v .offered) (w .offered);
-        pending = moved (λ v. v .pending) (pending-many terms cs) (pending-picked terms cs is chosen) (v .pending) (w .pending);
-        offsets = moved (λ v. v .offsets) (offsets-many terms cs) (offsets-picked terms cs is chosen) (v .offsets) (w .offsets);
-      }
-
-pub demand-3-columns : (c d : ViewCall) (is : List ℕ) → Chosen (outcomeOf (bookOf c) .lines) is → Moved c d is → c .answer .number ≡ 0 → SameValues c d is
-unfolding outcomeOf
-demand-3-columns c d is chosen same h = let f = seen-by c h in same-values c d is same f (rw (f .judged) at chosen)

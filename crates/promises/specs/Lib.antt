@@ -15,7 +15,10 @@ pub mod Numbers
 pub mod CallExactly
 pub mod Demands
 pub mod Demand3
+pub mod ByIndices
 pub mod InColumns
+pub mod PickedView
+pub mod ColumnsMoved
 pub mod Layouts
 pub mod Room
 pub mod Fair

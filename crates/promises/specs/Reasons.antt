@@ -12,7 +12,9 @@ use Rattle.rules.specs.declared.Form.{Form}
 use Rattle.rules.specs.Refusal as refusal
 use Rattle.rules.specs.Limits.{mostCustomers}
 use Rattle.rules.specs.Text.{is, bytes}
-use Rattle.rules.specs.Figures.{priceForm, rateForm, heldForm, tradedForm, has, formed, number, inRange, upToBlank, afterBlank}
+use Rattle.rules.specs.Figures.{numberAfter, priceForm, rateForm, heldForm, tradedForm, has, formed, number, inRange}
+use Rattle.rules.specs.Stamp.{digitsOf, isDay, isTime}
+use Rattle.rules.specs.Opening.{upToBlank, afterBlank}
 use Rattle.rules.specs.Codes.{isCode, same}
 use Rattle.rules.specs.Book.{Customer, uncovered, given, Nobody, Open, DueK, DueH, DueQ, DueTrade, begun}
 use Rattle.rules.specs.Book.{Due, AtTerm, InGroup, DueD, DueS, DueL, DueU, DueV}
@@ -51,12 +53,20 @@ belongs (InGroup terms cs (Open DueTrade c)) t = is "C" t || is "Z" t || is "B" 
 abbrev pub stands : Char → Due → ℕ → Bool
 stands letter due t = is letter t && belongs due t
 
--- a value is a figure of a form, in its range; "a price, one blank (0x20), lots"
+-- a value is a figure of a form, in its range
 abbrev pub isFigure : Form → List ℕ → Bool
 isFigure form v = formed form v && inRange form (number form v)
 
+-- the day as eight digits and the time as four, and both are such
+abbrev pub isStamp : List ℕ → List ℕ → Bool
+isStamp day time = digitsOf 8 day && digitsOf 4 time && isDay (numberAfter 0 day) && isTime (numberAfter 0 time)
+
+-- "a price, one blank (0x20), lots", and "a blank, the trading day as eight digits, a blank and the time as four digits"
 abbrev pub isTrade : List ℕ → Bool
-isTrade v = isFigure priceForm (upToBlank v) && isFigure tradedForm (afterBlank v)
+isTrade v =
+    let rest = afterBlank v in
+    let made = afterBlank rest in
+    isFigure priceForm (upToBlank v) && isFigure tradedForm (upToBlank rest) && isStamp (upToBlank made) (afterBlank made)
 
 -- the table of tags and values, with "Z, length 0"; no other tag has a form
 abbrev pub isOf : ℕ → List ℕ → Bool
