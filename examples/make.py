@@ -1,9 +1,9 @@
 #!/usr/bin/env python3
-"""Writes the sample books of this folder, each with the listing that document 01 gives it, NAME.book and NAME.txt, and a refused one with
-the line that the program puts on standard error too, NAME.said.
+"""Writes the sample books of this folder, each with the listing that documents 01 and 02 give it, NAME.book and NAME.txt, and a refused
+one with the line that the program puts on standard error too, NAME.said.
 
-The listings are written out here by hand, from document 01, and the lines from section 16 of docs/RULES.md; none is taken from a program.
-Run it in this folder.
+The listings are written out here by hand, from those documents, and the lines from section 16 of docs/RULES.md; none is taken from a
+program. Run it in this folder.
 
 The one exception is typical.txt, too long to write by hand. This script writes its book alone; its listing is what the second program
 printed, and the gate holds both programs to it. In the folder above: target/cargo/release/second < examples/typical.book"""
@@ -23,18 +23,51 @@ def customer(code, k, h, q, *trades):
 
 
 END = field("Z", "")
+STAMP = " 20250115 1000"  # the one day and time of document 01's cases, with their blanks: 14 bytes
 
 
-def listing(l="8.000"):
+def listing(l="8.000", stamp=STAMP):
     return (
         terms(l=l)
-        + customer("W3", "0", "1", "0", ("A", "410.00 1"))
-        + customer("P2", "4", "0", "4", ("B", "440.00 4"))
-        + customer("W1", "0", "3", "0", ("A", "440.00 3"))
-        + customer("P1", "8", "2", "6", ("B", "440.00 8"), ("A", "440.00 2"))
-        + customer("W2", "0", "5", "0", ("A", "420.00 5"))
+        + customer("W3", "0", "1", "0", ("A", "410.00 1" + stamp))
+        + customer("P2", "4", "0", "4", ("B", "440.00 4" + stamp))
+        + customer("W1", "0", "3", "0", ("A", "440.00 3" + stamp))
+        + customer("P1", "8", "2", "6", ("B", "440.00 8" + stamp), ("A", "440.00 2" + stamp))
+        + customer("W2", "0", "5", "0", ("A", "420.00 5" + stamp))
         + END
     )
+
+
+def with_trades(p1, w1, w2):
+    """Three customers by their trades. P1 is long 5 and W1 short 10; W2 is short 4."""
+    return terms() + customer("P1", "5", "0", "5", *p1) + customer("W1", "0", "10", "0", *w1) + customer("W2", "0", "4", "0", *w2) + END
+
+
+# A trading day begins at 19:50, so that the night, 20:00 to 2:30, comes before the day. In the order of time:
+P1 = [
+    ("B", "400.00 5 20250115 2245"),
+    ("B", "400.00 5 20250115 0105"),
+    ("B", "400.00 5 20250115 0930"),
+    ("B", "440.00 5 20250115 0930"),  # of equal minutes the later place: these 5, a loss of 10 percent, P
+]
+W1 = [
+    ("A", "410.00 10 20250115 2031"),
+    ("B", "300.00 1 20250115 0930"),
+    ("A", "440.00 10 20250115 1455"),  # these 10, a gain of 10 percent, tier 1
+]
+W2 = [
+    ("A", "400.00 4 20250114 2100"),
+    ("A", "400.00 4 20250114 1500"),
+    ("A", "404.00 3 20250115 2355"),  # 2 of these 3
+    ("A", "440.00 2 20250115 0010"),  # and these 2: 22.00 on 400.00 in the mean, 5.5 percent, tier 2
+]
+# P1's 5 against the 10 of W1, whichever way the trades stand in the book. By the clock P1 would have no loss and W1 and W2 stand in tier 3.
+BY_TIME = "total 5\nleft 0\nP1 P 5\nW1 1 5\nW2 2 0\n"
+
+
+def by_clock(trades):
+    """As a broker exports them who goes by the clock: the night of a trading day after its day."""
+    return sorted(trades, key=lambda trade: trade[1].split()[2:])
 
 
 def crowd(n):
@@ -43,14 +76,13 @@ def crowd(n):
 
 
 def sized(size):
-    """A sound book of exactly so many bytes: one customer without a position, trades of 9 bytes, and one that is longer."""
+    """A sound book of exactly so many bytes: one customer without a position, trades of 23 bytes, the last three of them longer."""
     head = terms() + customer("A", "0", "0", "0")
     left = size - len(head) - len(END)
-    count = left // 9 - 1
-    value = left - 9 * count - 3  # from 6 to 14 bytes
-    price = min(8, value - 2)
-    last = "1" * (price - 3) + ".00 " + "1" * (value - 1 - price)
-    book = head + field("B", "1.00 1") * count + field("B", last) + END
+    count, more = left // 23, left % 23  # more bytes than trades of 23 take: up to 22, and up to 8 in each of the last three
+    longer = [min(8, max(0, more - 8 * i)) for i in range(3)]
+    last = [field("B", f"{'1' * min(5, 1 + n)}.00 {'1' * (1 + max(0, n - 4))}{STAMP}") for n in longer]
+    book = head + field("B", "1.00 1" + STAMP) * (count - 3) + b"".join(last) + END
     assert len(book) == size
     return book
 
@@ -86,16 +118,27 @@ def price(fen):
     return f"{fen // 100}.{fen % 100:02d}"
 
 
+# The hours of trading in steps of 5, as minutes after 19:50: 20:00 to 2:30, 9:00 to 11:30 and 13:30 to 15:30.
+HOURS = [*range(10, 401, 5), *range(790, 941, 5), *range(1060, 1181, 5)]
+
+
+def stamps(row, count):
+    """Trading days of January 2025 and times within the hours of trading, oldest first. Now and then two are the same."""
+    for day, minute in sorted((row.among(6, 17), HOURS[row.among(0, len(HOURS) - 1)]) for _ in range(count)):
+        hour, minute = divmod((19 * 60 + 50 + minute) % (24 * 60), 60)
+        yield f"202501{day:02d} {hour:02d}{minute:02d}"
+
+
 def opened(row, side, low, high):
     """Opening trades oldest first, one in six of them on the other side, and the lots opened on the two sides."""
     trades, lots = [], {"A": 0, "B": 0}
     around = row.among(low, high)
-    for _ in range(row.among(3, 25)):
+    for stamp in stamps(row, row.among(3, 13)):
         own = row.among(1, 6) > 1
         tag = side if own else "AB"[side == "A"]
         count = row.among(1, 60) if own else row.among(1, 9)
         lots[tag] += count
-        trades.append((tag, f"{price(around + row.among(-6_00, 6_00))} {count}"))
+        trades.append((tag, f"{price(around + row.among(-6_00, 6_00))} {count} {stamp}"))
     return trades, lots
 
 
@@ -121,6 +164,11 @@ BOOKS = {
     "empty": (terms() + END, NOTHING),
     "customers-256": (terms() + crowd(256) + END, NOTHING + "".join(f"{1000 + i} N 0\n" for i in range(256))),
     "bytes-60000": (sized(60_000), NOTHING + "A N 0\n"),
+    "trades-by-clock": (with_trades(by_clock(P1), by_clock(W1), by_clock(W2)), BY_TIME),
+    "trades-shuffled": (
+        with_trades([P1[2], P1[0], P1[3], P1[1]], [W1[2], W1[0], W1[1]], [W2[3], W2[1], W2[0], W2[2]]),
+        BY_TIME,
+    ),
 }
 # the book, its number and place, and the words for them
 REFUSED = {
@@ -129,15 +177,26 @@ REFUSED = {
     "3-tag": (terms() + field("X", ""), "3 at 37", "a byte that is no tag, or that follows Z"),
     "4-comma": (listing("8,000"), "4 at 13", "a comma in the loss edge L"),
     "5-form": (terms(s="00.01") + END, "5 at 4", "not of its form or range: the settlement price S"),
+    "5-day": (
+        terms() + customer("A", "0", "0", "0", ("B", "400.00 1 20250229 1000")) + END,
+        "5 at 53",
+        "not of its form or range: the bought trade B",
+    ),
+    "5-time": (
+        terms() + customer("A", "0", "0", "0", ("B", "400.00 1 20250115 2400")) + END,
+        "5 at 53",
+        "not of its form or range: the bought trade B",
+    ),
+    "5-old-form": (listing(stamp=""), "5 at 54", "not of its form or range: the sold trade A"),
     "6-edges": (terms(u="4.000") + END, "6 at 29", "the tier 1 edge U is not greater than the tier 2 edge V"),
     "7-twice": (terms() + customer("A", "0", "0", "0") * 2 + END, "7 at 53", "this customer code was given before"),
     "8-unfilled": (
-        terms() + customer("A", "5", "0", "6", ("B", "400.00 5")) + END,
+        terms() + customer("A", "5", "0", "6", ("B", "400.00 5" + STAMP)) + END,
         "8 at 49",
         "the unfilled lots Q exceed the lots held on the locked side",
     ),
     "9-trades": (
-        terms() + customer("A", "5", "0", "0", ("B", "400.00 4")) + END,
+        terms() + customer("A", "5", "0", "0", ("B", "400.00 4" + STAMP)) + END,
         "9 at 37",
         "this customer's opening trades on its net side sum to less than its net position",
     ),

@@ -11,7 +11,7 @@ use crate::compare::{
 use crate::draw::Draw;
 use crate::guarded::{Lent, Place};
 use crate::program::Viewer;
-use crate::rearrange::{order, rearranged};
+use crate::rearrange::Arrangement;
 use crate::runs::{Places, Runs};
 use crate::statement::Statement;
 
@@ -120,15 +120,16 @@ pub fn values_stay(
     report: &Statement,
     variety: u64,
 ) -> Result<(), String> {
-    let order = order(report, &mut Draw::new(variety));
-    let other = rearranged(book, &order);
+    let arrangement = Arrangement::drawn(book, report, &mut Draw::new(variety));
+    let other = arrangement.of(book);
+    let order = &arrangement.customers;
     let before = accepted(viewer, book, report.lines.len(), variety)?;
     let after = accepted(viewer, &other, order.len(), variety)?;
     for (place, &who) in order.iter().enumerate() {
         let (was, is) = (before.at(who), after.at(place));
         if was != is {
             return Err(format!(
-                "order {order:?}: {was:?} at {who}, then {is:?} at {place}"
+                "{arrangement:?}: {was:?} at {who}, then {is:?} at {place}"
             ));
         }
     }

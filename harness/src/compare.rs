@@ -59,7 +59,7 @@ impl Check {
         ),
         (
             Check::Rearranged,
-            "another order and fewer bystanders change nothing",
+            "another order of customers and of trades, and fewer bystanders, change nothing",
         ),
         (Check::Columns, "columns: number, place and length"),
         (Check::Runs, "columns: every place of the four runs"),
@@ -136,7 +136,7 @@ pub struct Call {
 }
 
 /// Compares one book in all its rooms, then holds its report to the facts and to demand 3; then the same of its columns.
-/// `variety` decides what the buffers are filled with and how the customers are rearranged.
+/// `variety` decides what the buffers are filled with and how the customers and their trades are rearranged.
 pub fn compare(
     tried: &mut Tried,
     book: &[u8],

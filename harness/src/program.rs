@@ -1,10 +1,12 @@
 //! What is tried: the product's calls, or wrong programs in the tests.
 
 use std::hint::black_box;
+use std::path::Path;
 
 use crate::guarded::Lent;
-use crate::product::Answer;
+use crate::product::{self, Answer};
 use crate::runs::Runs;
+use crate::through::Through;
 
 /// A program that answers a book once for each lent buffer.
 pub trait Program {
@@ -47,4 +49,20 @@ impl<F: FnMut(&[u8], &mut [u8], [&mut [u64]; 3]) -> Answer> Viewer for F {
 pub struct Tried {
     pub program: Box<dyn Program>,
     pub viewer: Box<dyn Viewer>,
+}
+
+impl Tried {
+    /// The product behind a program that is asked over a pipe, or linked in; none where it cannot be linked in.
+    pub fn of(through: Option<&Path>) -> Option<Self> {
+        match through {
+            Some(file) => Some(Tried {
+                program: Box::new(Through::new(file)),
+                viewer: Box::new(Through::new(file)),
+            }),
+            None => cfg!(linked).then(|| Tried {
+                program: Box::new(product::allot),
+                viewer: Box::new(product::columns),
+            }),
+        }
+    }
 }

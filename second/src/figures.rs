@@ -1,10 +1,12 @@
-//! The figures of document 01: prices, rates and lots, read straight from the value.
+//! The figures of document 01: prices, rates and lots, read straight from the value; and
+//! the day and time of a trade, which are digits of a fixed number.
 //!
 //! Everything that says how a figure is written stands in this file, so a change of
-//! a form (decimals by a term, stamps on a trade) is a change here.
+//! a form (decimals by a term) is a change here.
 
 use crate::cursor::Field;
 use crate::refusal::{Refusal, Rule};
+use crate::stamp::Stamp;
 use crate::units::{Fen, Lots, Rate};
 
 /// The largest figure in lots, in holdings and in trades.
@@ -15,6 +17,7 @@ const MOST_LOTS: u32 = 1_000_000;
 pub struct Trade {
     pub price: Fen,
     pub lots: Lots,
+    pub stamp: Stamp,
 }
 
 /// The value of S.
@@ -32,7 +35,8 @@ pub fn held(field: &Field) -> Result<Lots, Refusal> {
     figure(field, Scan::lots)
 }
 
-/// The value of B or A: "a price, one blank (0x20), lots", at least 1 lot.
+/// The value of B or A: "a price, one blank (0x20), lots", at least 1 lot, then by request
+/// [2] "a blank, the trading day as eight digits, a blank and the time as four digits".
 #[inline]
 pub fn trade(field: &Field) -> Result<Trade, Refusal> {
     figure(field, Scan::trade)
@@ -95,7 +99,12 @@ impl Scan<'_> {
         let price = self.price()?;
         self.byte(b' ')?;
         let lots = self.lots()?;
-        (lots.0 > 0).then_some(Trade { price, lots })
+        self.byte(b' ')?;
+        let day = self.decimals::<8>()?;
+        self.byte(b' ')?;
+        let time = self.decimals::<4>()?;
+        let stamp = Stamp::of(day, time)?;
+        (lots.0 > 0).then_some(Trade { price, lots, stamp })
     }
 
     /// The digits at the front, 1 to `most` of them (at most 9, so that they fit); after

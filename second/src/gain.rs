@@ -28,7 +28,7 @@ impl Net {
 
 /// The signed total gain in fen over the newest trades that make up the net position;
 /// only the needed part of the last one counts. `trades` are those of the net side,
-/// oldest first. `None` where they sum to less than the position (refusal 9).
+/// oldest first as their stamps say. `None` where they sum to less than the position (refusal 9).
 pub fn total_gain(trades: &[Trade], net: Net, settlement: Fen) -> Option<i128> {
     let mut missing = net.lots.0;
     let mut rise = 0_i128;

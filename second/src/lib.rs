@@ -3,8 +3,8 @@
 //! The rules are document 01's ("Build definition and exact rules"). A book goes
 //! through these steps, one file each:
 //!
-//! 1. [`cursor`] cuts the book into fields, [`figures`] and [`code`] read values;
-//! 2. [`terms`] and [`reader`] put fields together and give the refusals;
+//! 1. [`cursor`] cuts the book into fields, [`figures`], [`stamp`] and [`code`] read values;
+//! 2. [`terms`] and [`reader`] put fields together, trades in the order of time, and give the refusals;
 //! 3. [`gain`] walks a customer's trades back, [`standing`] gives P, a tier or N;
 //! 4. [`division`] divides whole lots, [`cascade`] does so for the three tiers;
 //! 5. [`report`] and [`listing`] write the result, [`columns`] puts it into runs; [`call`] is what callers use.
@@ -24,6 +24,7 @@ pub mod make;
 pub mod reader;
 pub mod refusal;
 pub mod report;
+pub mod stamp;
 pub mod standing;
 pub mod terms;
 pub mod units;

@@ -22,7 +22,7 @@ pub const MOST_BYTES: usize = 60_000;
 pub const MOST_CUSTOMERS: usize = 256;
 /// The bytes of a customer with two or three trades. It is a guess that spares most
 /// books the growing of their tables; nothing else depends on it.
-const USUAL_GROUP: usize = 80;
+const USUAL_GROUP: usize = 110;
 
 /// A customer as the cascade needs it.
 #[derive(Clone, Copy, Debug, PartialEq, Eq)]
@@ -146,6 +146,14 @@ impl<'a> Reader<'a> {
     /// Trades up to the closing `C` or `Z`, which is handed back. Those on the net
     /// side are kept, oldest first; the others are judged all the same.
     fn trades(&mut self, net_side: Option<Side>) -> Result<Field<'a>, Refusal> {
+        let closing = self.trades_as_written(net_side)?;
+        // A stable sort: of equal stamps the later place in the book stays the newer.
+        self.trades.sort_by_key(|trade| trade.stamp);
+        Ok(closing)
+    }
+
+    /// The same with the kept trades in the order of the book.
+    fn trades_as_written(&mut self, net_side: Option<Side>) -> Result<Field<'a>, Refusal> {
         self.trades.clear();
         loop {
             let field = self.cursor.field()?;

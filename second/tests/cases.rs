@@ -1,4 +1,5 @@
-//! Document 01, "Both sides of each edge" and the listing given in full.
+//! Document 01, "Both sides of each edge" and the listing given in full. All trades have
+//! one day and time, as request [2] says.
 
 mod common;
 
@@ -17,7 +18,7 @@ fn long(lots: u32, trades: &str) -> String {
 }
 
 fn sold(price: &str) -> String {
-    standing(&format!("K0;H10;Q0;A{price} 10"))
+    standing(&format!("K0;H10;Q0;A{price} 10@"))
 }
 
 /// The lots of each member, in the order given.
@@ -34,8 +35,8 @@ fn divided(quantity: u64, weights: &[(&str, u64)]) -> Vec<u64> {
 
 #[test]
 fn case_1_loss_edge() {
-    assert_eq!(long(10, "B432.00 10"), "P");
-    assert_eq!(long(10, "B431.99 10"), "N");
+    assert_eq!(long(10, "B432.00 10@"), "P");
+    assert_eq!(long(10, "B431.99 10@"), "N");
 }
 
 #[test]
@@ -58,15 +59,15 @@ fn case_4_no_gain_is_no_tier() {
 
 #[test]
 fn case_5_only_the_newest_trades_count() {
-    assert_eq!(long(10, "B450.00 10;B420.00 10"), "N");
+    assert_eq!(long(10, "B450.00 10@;B420.00 10@"), "N");
 }
 
 #[test]
 fn case_6_only_a_part_of_the_last_trade_counts() {
-    assert_eq!(long(15, "B450.00 10;B420.00 10"), "N");
+    assert_eq!(long(15, "B450.00 10@;B420.00 10@"), "N");
     // Were all 20 lots counted, the total would be -70,000 over 15: P. One lot fewer
     // of the newer trade is -48,000, exactly 8 percent.
-    assert_eq!(long(15, "B450.00 10;B420.00 9"), "P");
+    assert_eq!(long(15, "B450.00 10@;B420.00 9@"), "P");
 }
 
 #[test]
@@ -88,11 +89,11 @@ fn case_9_one_over_a_million_and_one() {
 
 /// The customers of document 01's listing.
 const LISTED: &str = "\
-    CW3;K0;H1;Q0;A410.00 1;\
-    CP2;K4;H0;Q4;B440.00 4;\
-    CW1;K0;H3;Q0;A440.00 3;\
-    CP1;K8;H2;Q6;B440.00 8;A440.00 2;\
-    CW2;K0;H5;Q0;A420.00 5;Z";
+    CW3;K0;H1;Q0;A410.00 1@;\
+    CP2;K4;H0;Q4;B440.00 4@;\
+    CW1;K0;H3;Q0;A440.00 3@;\
+    CP1;K8;H2;Q6;B440.00 8@;A440.00 2@;\
+    CW2;K0;H5;Q0;A420.00 5@;Z";
 
 #[test]
 fn case_10_the_listing() {
@@ -119,17 +120,18 @@ fn case_11_256_customers_are_accepted_and_the_257th_c_is_10() {
 }
 
 /// A book of exactly this many bytes, padded with trades of a customer without a net
-/// position: fields of 11 bytes, then two of 11 to 16 that take up the rest.
+/// position: fields of 25 bytes, then five of 25 to 30 that take up the rest.
 fn book_of(size: usize) -> Vec<u8> {
     let mut bytes = book(&format!("{GOLD}CX;K0;H0;Q0"));
     let end = field(b'Z', b"");
-    while size - bytes.len() - end.len() >= 33 {
-        bytes.extend(field(b'B', b"400.00 1"));
+    while size - bytes.len() - end.len() >= 6 * 25 {
+        bytes.extend(book("B400.00 1@"));
     }
     let gap = size - bytes.len() - end.len();
-    for length in [gap / 2, gap - gap / 2] {
-        let lots = "1".repeat(length - 10);
-        bytes.extend(field(b'A', format!("400.00 {lots}").as_bytes()));
+    for nth in 0..5 {
+        let length = (gap + nth) / 5;
+        let lots = "1".repeat(length - 24);
+        bytes.extend(book(&format!("A400.00 {lots}@")));
     }
     bytes.extend(end);
     assert_eq!(bytes.len(), size);

@@ -78,6 +78,12 @@ fn every_refusal_number_is_reached() {
     counts.at_least(20, &names("value in Z gave", &[5, 9]));
     counts.at_least(20, &names("comma in value gave", &[4, 5]));
     counts.at_least(20, &names("pending over held gave", &[5, 8]));
+    // A stamp that was replaced is bad, or good and another.
+    counts.at_least(100, &names("day replaced gave", &[0, 5]));
+    counts.at_least(100, &names("time replaced gave", &[0, 5]));
+    counts.at_least(20, &names("stamp misspelt gave", &[4, 5]));
+    counts.at_least(20, &names("blanks of a trade gave", &[4, 5]));
+    counts.at_least(200, &names("parts of a trade gave", &[5]));
     let damaged = counts
         .seen
         .keys()
@@ -170,8 +176,8 @@ fn sizes_and_counts_at_their_edges_are_reached() {
         counts.add(format!("{} of {}", made.kind, tagged("C")));
         counts.add(format!("{} with {} 000", made.kind, tagged("AB") / 1_000));
         let listing = String::from_utf8(listing(&made.bytes)).unwrap();
-        if lots_bought(&fields) > u64::from(u32::MAX / 2) {
-            counts.add("bought past 31 bits".to_string());
+        if lots_bought(&fields) > 1_000_000_000 {
+            counts.add("bought past 1,000,000,000".to_string());
         }
         for line in listing.lines().take(2) {
             counts.add(format!("{} in {}", line.len(), &line[..5]));
@@ -179,10 +185,174 @@ fn sizes_and_counts_at_their_edges_are_reached() {
     });
     counts.at_least(10, &names("customer count of", &[0, 255, 256, 257]));
     counts.at_least(10, &names("bytes", &[59_999, 60_000, 60_001]));
-    counts.at_least(10, &names("many trades with", &["1 000", "2 000", "3 000"]));
-    counts.at_least(5, &["bought past 31 bits".to_string()]);
+    counts.at_least(10, &names("many trades with", &["1 000", "2 000"]));
+    counts.at_least(5, &["bought past 1,000,000,000".to_string()]);
     // Lines as long as nine digits after `total ` and `left ` make them.
     counts.at_least(5, &["15 in total".to_string(), "14 in left ".to_string()]);
+}
+
+/// The stamps of each customer's trades, `20250115 2031`, in the order of the book.
+fn stamps(book: &[u8]) -> Vec<Vec<String>> {
+    let mut all = Vec::new();
+    for group in common::parts(book).1 {
+        let fields = common::fields(&group);
+        let trades = fields[4..].iter().map(|(_, value)| {
+            let text = std::str::from_utf8(value).unwrap();
+            text.split_once(' ')
+                .unwrap()
+                .1
+                .split_once(' ')
+                .unwrap()
+                .1
+                .to_string()
+        });
+        all.push(trades.collect());
+    }
+    all
+}
+
+/// A stamp whose text is in the order of time: the hours since 19:50 begin a day.
+fn in_time(stamp: &str) -> String {
+    let (day, time) = stamp.split_once(' ').unwrap();
+    let part = if time >= "1950" { "evening" } else { "later" };
+    format!("{day} {part} {time}")
+}
+
+#[test]
+fn trades_stand_in_every_order() {
+    let counts = counted(|counts, family, made| {
+        if family == "damaged" {
+            return;
+        }
+        for written in stamps(&made.bytes).iter().filter(|stamps| stamps.len() > 2) {
+            let times: Vec<String> = written.iter().map(|stamp| in_time(stamp)).collect();
+            let mut different = times.clone();
+            different.sort();
+            different.dedup();
+            let equal = different.len() < times.len();
+            let order = if different.len() == 1 {
+                "one stamp"
+            } else if times.is_sorted() {
+                "in time"
+            } else if written.is_sorted() {
+                "by clock"
+            } else if times.is_sorted_by(|one, next| one >= next) {
+                "newest first"
+            } else {
+                "in no order"
+            };
+            counts.add(format!("{order}, equal stamps {equal}"));
+        }
+    });
+    counts.at_least(1_000, &["one stamp, equal stamps true".to_string()]);
+    for order in ["in time", "by clock", "newest first", "in no order"] {
+        counts.at_least(
+            1_000,
+            &names(&format!("{order}, equal stamps"), &[false, true]),
+        );
+    }
+}
+
+/// How a customer's trades on its net side stand, for one that has a net position: `128 out of
+/// order, not all count`.
+fn on_net_side(group: &[u8]) -> Option<String> {
+    let fields = common::fields(group);
+    let text = |value| std::str::from_utf8(value).unwrap();
+    let [long, short] = [1, 2].map(|at| text(fields[at].1).parse::<u64>().unwrap());
+    if long == short {
+        return None;
+    }
+    let side = if long > short { b'B' } else { b'A' };
+    let (mut times, mut opened) = (Vec::new(), 0);
+    for (_, value) in fields[4..].iter().filter(|(tag, _)| *tag == side) {
+        let words: Vec<&str> = text(value).splitn(3, ' ').collect();
+        opened += words[1].parse::<u64>().unwrap();
+        times.push(in_time(words[2]));
+    }
+    let order = if times.is_sorted() { "in" } else { "out of" };
+    let part = if opened > long.abs_diff(short) {
+        "not all"
+    } else {
+        "all"
+    };
+    Some(format!("{} {order} order, {part} count", times.len()))
+}
+
+#[test]
+fn about_128_trades_on_the_net_side_are_reached() {
+    let counts = counted(|counts, family, made| {
+        if family == "damaged" {
+            return;
+        }
+        let groups = common::parts(&made.bytes).1;
+        for seen in groups.iter().filter_map(|group| on_net_side(group)) {
+            counts.add(seen);
+        }
+    });
+    for trades in [127, 128, 129] {
+        let prefix = trades.to_string();
+        counts.at_least(30, &names(&prefix, &["out of order, not all count"]));
+        counts.at_least(5, &names(&prefix, &["out of order, all count"]));
+        counts.at_least(5, &names(&prefix, &["in order, not all count"]));
+    }
+}
+
+/// Customers with trades at both of two stamps, on one day or on two running.
+#[test]
+fn both_sides_of_the_edges_of_a_trading_day_are_reached() {
+    let pairs = [
+        ("1950", "1949"),
+        ("1950", "1951"),
+        ("2359", "0000"),
+        ("0230", "0900"),
+        ("2000", "1949"),
+    ];
+    let days = ["20000101", "20000229", "20010228", "20360229", "20991231"];
+    let counts = counted(|counts, family, made| {
+        if family == "damaged" {
+            return;
+        }
+        for stamps in stamps(&made.bytes) {
+            let split = stamps.iter().map(|stamp| stamp.split_once(' ').unwrap());
+            let all: Vec<(&str, &str)> = split.collect();
+            for (one, other) in pairs {
+                let of_day =
+                    |&(day, time): &(&str, &str)| time == one && all.contains(&(day, other));
+                if all.iter().any(of_day) {
+                    counts.add(format!("{one} and {other}"));
+                }
+            }
+            for (day, _) in all {
+                counts.add(format!("on {day}"));
+            }
+        }
+    });
+    counts.at_least(300, &pairs.map(|(one, other)| format!("{one} and {other}")));
+    counts.at_least(300, &names("on", &days));
+}
+
+#[test]
+fn wrong_orders_of_trades_give_other_reports() {
+    let counts = counted(|counts, _, made| {
+        if allot(&made.bytes, ROOM).number != 0 || made.bytes.len() > 5_000 {
+            return;
+        }
+        let right = naive::work(&made.bytes).report;
+        let wrong: [(&str, naive::Newer); 3] = [
+            ("by place", naive::by_place),
+            ("by clock", naive::by_clock),
+            ("earlier place", naive::by_stamp_turned),
+        ];
+        for (name, newer) in wrong {
+            if naive::work_by(newer, &made.bytes).report != right {
+                counts.add(format!("shown: {name}"));
+            }
+        }
+    });
+    counts.at_least(
+        1_000,
+        &names("shown:", &["by place", "by clock", "earlier place"]),
+    );
 }
 
 /// FNV-1a over the bytes of books.
@@ -206,5 +376,5 @@ fn the_same_seed_makes_the_same_books() {
 fn the_first_1000_books_are_the_known_ones() {
     // A change of the generator changes this sum; change it here only on purpose, since
     // books named by seed and index elsewhere are then other books.
-    assert_eq!(checksum(1, 1_000), 6_016_385_026_587_905_923);
+    assert_eq!(checksum(1, 1_000), 317_257_982_900_494_803);
 }

@@ -2,7 +2,7 @@
 
 mod common;
 
-use common::{join, naive, parts, report, Line, Numbers, Report};
+use common::{field, fields, join, naive, parts, report, Line, Numbers, Report};
 use second::{allot, listing, make};
 
 const ROOM: usize = 10_000;
@@ -59,6 +59,70 @@ fn demand_3_the_order_of_customers_changes_nothing() {
         compared += 1;
     }
     assert!(compared > 5_000, "only {compared} compared");
+}
+
+/// A group with its trades in another order in which those of equal stamps keep theirs. Answers whether the order is
+/// another.
+fn trades_moved(group: &mut Vec<u8>, numbers: &mut Numbers) -> bool {
+    let before = group.clone();
+    let fields = fields(&before);
+    let (head, trades) = fields.split_at(4);
+    let mut order: Vec<usize> = (0..trades.len()).collect();
+    numbers.shuffle(&mut order);
+    let stamp = |at: usize| &trades[at].1[trades[at].1.len() - 13..];
+    // Those of one stamp take the places that they were dealt, in their own order.
+    for place in 0..order.len() {
+        for later in place + 1..order.len() {
+            if order[later] < order[place] && stamp(order[later]) == stamp(order[place]) {
+                order.swap(place, later);
+            }
+        }
+    }
+    let trades = order.iter().map(|&at| &trades[at]);
+    *group = (head.iter().chain(trades))
+        .flat_map(|(tag, value)| field(*tag, value))
+        .collect();
+    !order.is_sorted()
+}
+
+#[test]
+fn demand_3_the_order_of_a_customers_trades_changes_nothing() {
+    let mut numbers = Numbers::new(5);
+    let (mut moved, mut customers) = (0, 0);
+    for (book, before) in accepted(17, 6_000) {
+        let (terms, mut groups) = parts(&book);
+        for group in &mut groups {
+            moved += u64::from(trades_moved(group, &mut numbers));
+            customers += 1;
+        }
+        let answer = allot(&join(&terms, &groups), ROOM);
+        assert_eq!(answer.number, 0);
+        assert_eq!(report(&answer.report), before);
+    }
+    println!("{moved} of {customers} customers with trades in another order");
+    assert!(moved > 10_000, "only {moved} moved");
+}
+
+#[test]
+fn demand_3_all_three_freedoms_together() {
+    let mut numbers = Numbers::new(6);
+    let mut compared = 0;
+    for (book, before) in accepted(18, 6_000) {
+        let (terms, groups) = parts(&book);
+        let mut kept: Vec<(Vec<u8>, Line)> = (groups.into_iter().zip(before.lines))
+            .filter(|(_, line)| line.standing != 'N' || numbers.below(3) == 0)
+            .collect();
+        numbers.shuffle(&mut kept);
+        for (group, _) in &mut kept {
+            trades_moved(group, &mut numbers);
+        }
+        let (groups, lines): (Vec<_>, Vec<_>) = kept.into_iter().unzip();
+        let answer = allot(&join(&terms, &groups), ROOM);
+        let want = Report { lines, ..before };
+        assert_eq!(report(&answer.report), want);
+        compared += 1;
+    }
+    assert!(compared > 3_000, "only {compared} compared");
 }
 
 #[test]

@@ -38,7 +38,7 @@ fn in_lots(tag: char, value: &str) -> String {
         format!("{name}{};", if name == tag { value } else { good })
     });
     listed(&format!(
-        "{GOLD}CA;{}A400.00 1000000;B400.00 1000000;Z",
+        "{GOLD}CA;{}A400.00 1000000@;B400.00 1000000@;Z",
         fields.concat()
     ))
 }
@@ -76,9 +76,9 @@ fn number_2_where_a_field_must_begin() {
 
 #[test]
 fn number_2_or_3_at_every_cut_of_a_book() {
-    let whole = book(&format!("{GOLD}CA;K1;H0;Q1;B440.00 1;Z"));
+    let whole = book(&format!("{GOLD}CA;K1;H0;Q1;B440.00 1@;Z"));
     assert!(is_accepted(&listed_bytes(&whole)));
-    let begins = [0, 4, 13, 21, 29, 37, 41, 45, 49, 53, 64];
+    let begins = [0, 4, 13, 21, 29, 37, 41, 45, 49, 53, 78];
     for cut in 0..whole.len() {
         let at = begins.iter().rev().find(|&&begin| begin <= cut).unwrap();
         assert_eq!(listed_bytes(&whole[..cut]), format!("refused 2 at {at}\n"));
@@ -97,7 +97,7 @@ fn number_3_a_tag_that_does_not_belong_there() {
     assert_eq!(refused("d"), "3 at 0");
     assert_eq!(refused(&format!("{GOLD}V4.000;Z")), "3 at 37");
     assert_eq!(refused(&format!("{GOLD}K0;Z")), "3 at 37");
-    assert_eq!(refused(&format!("{GOLD}B400.00 1;Z")), "3 at 37");
+    assert_eq!(refused(&format!("{GOLD}B400.00 1@;Z")), "3 at 37");
     assert_eq!(refused(&format!("{GOLD}CA;H0;K0;Q0;Z")), "3 at 41");
     assert_eq!(refused(&format!("{GOLD}CA;CB;K0;H0;Q0;Z")), "3 at 41");
     assert_eq!(refused(&format!("{GOLD}CA;K0;H0;Z")), "3 at 49");
@@ -127,10 +127,16 @@ fn number_4_a_comma_in_each_of_its_fields() {
     }
     for value in [
         ",",
+        "400,00 1@",
+        "400.00 1,000@",
+        "400.00,1@",
+        "400.00 1,@",
+        "400.00 1 2025,0115 1000",
+        "400.00 1 20250115,1000",
+        "400.00 1 20250115 10,00",
+        "400.00 1@,",
         "400,00 1",
-        "400.00 1,000",
-        "400.00,1",
-        "400.00 1,",
+        "400.00 1,20250431 2400",
         "x,",
     ] {
         assert_eq!(in_trade(value), "refused 4 at 53\n");
@@ -227,32 +233,164 @@ fn number_5_lots() {
 
 #[test]
 fn number_5_trades() {
-    for value in ["0.01 1", "99999.99 1000000", "400.00 999999"] {
+    for value in ["0.01 1@", "99999.99 1000000@", "400.00 999999@"] {
         assert!(is_accepted(&in_trade(value)), "{value}");
     }
     for value in [
         "",
         " ",
-        "400.00",
-        "400.00 ",
-        "400.00  1",
-        " 400.00 1",
-        "400.00 1 ",
-        "400.00\t1",
-        "400.001",
-        "400.00 0",
-        "400.00 01",
-        "400.00 1000001",
-        "0.00 1",
-        "00.01 1",
-        "400.0 1",
-        "400 1",
-        "400.000 1",
-        "400.00-1",
-        "100000.00 1",
-        "400.00 1 20200101 0900",
+        "@",
+        "400.00@",
+        "400.00 @",
+        "400.00  1@",
+        " 400.00 1@",
+        "400.00\t1@",
+        "400.001@",
+        "400.00 0@",
+        "400.00 01@",
+        "400.00 1000001@",
+        "400.00 10000000@",
+        "0.00 1@",
+        "00.01 1@",
+        "400.0 1@",
+        "400 1@",
+        "400.000 1@",
+        "400.00-1@",
+        "100000.00 1@",
     ] {
         assert_eq!(in_trade(value), "refused 5 at 53\n", "{value}");
+    }
+}
+
+#[test]
+fn number_5_a_trade_without_a_stamp_or_with_too_much_of_one() {
+    for value in [
+        // every value of the old form
+        "0.01 1",
+        "400.00 1",
+        "99999.99 1000000",
+        // parts that lack, and one more
+        "400.00 1 ",
+        "400.00 1 20250115",
+        "400.00 1 20250115 ",
+        "400.00 1 1000",
+        "400.00 1 1000 20250115",
+        "400.00 20250115 1000",
+        "400.00 1@ ",
+        "400.00 1@ 1",
+        "400.00 1@@",
+        "400.00 1@\n",
+        "400.00 1@\0",
+        // blanks
+        "400.00 1  20250115 1000",
+        "400.00 1 20250115  1000",
+        "400.00 1 202501151000",
+        "400.00 120250115 1000",
+        "400.00 1\t20250115 1000",
+        "400.00 1 20250115\t1000",
+        "400.00 1 20250115T1000",
+        "400.00 1 2025 0115 1000",
+        // digits
+        "400.00 1 2025115 1000",
+        "400.00 1 020250115 1000",
+        "400.00 1 202501150 1000",
+        "400.00 1 20250115 900",
+        "400.00 1 20250115 10000",
+        "400.00 1 20250115 01000",
+        "400.00 1 20250115 10:00",
+        "400.00 1 2025-1-5 1000",
+        "400.00 1 +2025115 1000",
+        "400.00 1 2025011a 1000",
+        "400.00 1 20250115 +900",
+        "400.00 1 20250115  900",
+        "400.00 1 20250115 9.00",
+        "400.00 1 20250115 100/",
+        "400.00 1 20250115 100:",
+        "400.00 1 2025011/ 1000",
+        "400.00 1 2025011: 1000",
+    ] {
+        assert_eq!(in_trade(value), "refused 5 at 53\n", "{value}");
+    }
+}
+
+/// A trade on this day, and one at this time.
+fn on(day: &str) -> String {
+    in_trade(&format!("400.00 1 {day} 1000"))
+}
+
+fn at(time: &str) -> String {
+    in_trade(&format!("400.00 1 20250115 {time}"))
+}
+
+#[test]
+fn number_5_days_of_the_calendar_from_2000_to_2099() {
+    for good in [
+        "20000101", "20000229", "20001231", "20010228", "20040229", "20240229", "20250131",
+        "20250228", "20250331", "20250430", "20250531", "20250630", "20250731", "20250831",
+        "20250930", "20251031", "20251130", "20251231", "20960229", "20991231",
+    ] {
+        assert!(is_accepted(&on(good)), "{good}");
+    }
+    for bad in [
+        "00000000", "00010101", "19990101", "19991231", "20000100", "20000001", "20000230",
+        "20010229", "20230229", "20240230", "20250001", "20250100", "20250132", "20250229",
+        "20250332", "20250431", "20250532", "20250631", "20250732", "20250832", "20250931",
+        "20251032", "20251131", "20251232", "20251301", "20252001", "20259999", "20970229",
+        "21000101", "21000228", "21000229", "99991231", "99999999",
+    ] {
+        assert_eq!(on(bad), "refused 5 at 53\n", "{bad}");
+    }
+}
+
+/// Every number of eight digits from 19990101 on: as many as the calendar has are days.
+#[test]
+fn number_5_a_hundred_years_have_36_525_days() {
+    let is_day = |day: u32| second::stamp::Stamp::of(day, 0).is_some();
+    assert_eq!(
+        (19_990_000..=21_010_000).filter(|&day| is_day(day)).count(),
+        36_525
+    );
+    for month in 1..=12 {
+        let days = |year: u32| {
+            let first = 10_000 * year + 100 * month;
+            (first..first + 100).filter(|&day| is_day(day)).count()
+        };
+        let usual = [31, 28, 31, 30, 31, 30, 31, 31, 30, 31, 30, 31][month as usize - 1];
+        for year in 2000..=2099 {
+            let more = usize::from(month == 2 && year % 4 == 0);
+            assert_eq!(days(year), usual + more, "{year} {month}");
+        }
+    }
+}
+
+#[test]
+fn number_5_times_of_the_clock() {
+    for good in [
+        "0000", "0001", "0059", "0100", "0230", "0900", "0959", "1000", "1949", "1950", "1959",
+        "2000", "2300", "2359",
+    ] {
+        assert!(is_accepted(&at(good)), "{good}");
+    }
+    for bad in [
+        "0060", "0099", "0160", "1960", "1999", "2360", "2399", "2400", "2401", "2459", "9900",
+        "9999",
+    ] {
+        assert_eq!(at(bad), "refused 5 at 53\n", "{bad}");
+    }
+    let good = (0..=9_999).filter(|&time| second::stamp::Stamp::of(20_250_115, time).is_some());
+    assert_eq!(good.count(), 24 * 60);
+}
+
+#[test]
+fn number_5_stamps_are_judged_on_the_other_side_and_without_a_position() {
+    // A holds 1 long, and its sale is on the other side; B holds nothing; C has enough in its newest trade.
+    for bad in ["20250431 1000", "20250115 2400", "20250115 1000 "] {
+        let other = format!("{GOLD}CA;K1;H0;Q0;B400.00 1@;A400.00 1 {bad};Z");
+        assert_eq!(refused(&other), "5 at 78");
+        let none = format!("{GOLD}CB;K0;H0;Q0;B400.00 1@;A400.00 1 {bad};Z");
+        assert_eq!(refused(&none), "5 at 78");
+        let old = format!("{GOLD}CC;K1;H0;Q0;B400.00 1@;B400.00 1 {bad};Z");
+        assert_eq!(refused(&old), "5 at 78");
     }
 }
 
@@ -311,29 +449,29 @@ fn number_8_q_against_the_locked_side() {
     assert_eq!(refused(&format!("{GOLD}CA;K1;H9;Q2;Z")), "8 at 49");
     assert_eq!(refused(&format!("{GOLD_UP}CA;K9;H1;Q2;Z")), "8 at 49");
     assert!(is_accepted(&listed(&format!(
-        "{GOLD}CA;K2;H9;Q2;A400.00 7;Z"
+        "{GOLD}CA;K2;H9;Q2;A400.00 7@;Z"
     ))));
     assert!(is_accepted(&listed(&format!(
-        "{GOLD_UP}CA;K9;H2;Q2;B400.00 7;Z"
+        "{GOLD_UP}CA;K9;H2;Q2;B400.00 7@;Z"
     ))));
     // 4 and 5 of Q come first, and 8 comes before the trades and 9.
     assert_eq!(refused(&format!("{GOLD}CA;K1;H0;Q2,;Z")), "4 at 49");
     assert_eq!(refused(&format!("{GOLD}CA;K1;H0;Q02;Z")), "5 at 49");
-    assert_eq!(refused(&format!("{GOLD}CA;K1;H0;Q2;B4,00 1;Z")), "8 at 49");
+    assert_eq!(refused(&format!("{GOLD}CA;K1;H0;Q2;B4,00 1@;Z")), "8 at 49");
 }
 
 #[test]
 fn number_9_at_the_customers_own_c() {
     assert_eq!(
-        refused(&format!("{GOLD}CA;K2;H0;Q0;B400.00 1;Z")),
+        refused(&format!("{GOLD}CA;K2;H0;Q0;B400.00 1@;Z")),
         "9 at 37"
     );
     assert_eq!(
-        refused(&format!("{GOLD}CA;K2;H0;Q0;A400.00 2;Z")),
+        refused(&format!("{GOLD}CA;K2;H0;Q0;A400.00 2@;Z")),
         "9 at 37"
     );
     assert_eq!(
-        refused(&format!("{GOLD}CA;K0;H2;Q0;B400.00 2;A400.00 1;Z")),
+        refused(&format!("{GOLD}CA;K0;H2;Q0;B400.00 2@;A400.00 1@;Z")),
         "9 at 37"
     );
     assert_eq!(
@@ -342,10 +480,10 @@ fn number_9_at_the_customers_own_c() {
     );
     // Only the net must be reached, by the sum of several trades.
     assert!(is_accepted(&listed(&format!(
-        "{GOLD}CA;K5;H3;Q0;B400.00 1;B400.00 1;Z"
+        "{GOLD}CA;K5;H3;Q0;B400.00 1@;B400.00 1@;Z"
     ))));
     assert_eq!(
-        refused(&format!("{GOLD}CA;K5;H2;Q0;B400.00 1;B400.00 1;Z")),
+        refused(&format!("{GOLD}CA;K5;H2;Q0;B400.00 1@;B400.00 1@;Z")),
         "9 at 37"
     );
 }
@@ -365,8 +503,8 @@ fn the_first_broken_field_decides() {
 /// Document 01's own example has a report of 73 bytes.
 fn example() -> Vec<u8> {
     book(&format!(
-        "{GOLD}CW3;K0;H1;Q0;A410.00 1;CP2;K4;H0;Q4;B440.00 4;CW1;K0;H3;Q0;A440.00 3;\
-         CP1;K8;H2;Q6;B440.00 8;A440.00 2;CW2;K0;H5;Q0;A420.00 5;Z"
+        "{GOLD}CW3;K0;H1;Q0;A410.00 1@;CP2;K4;H0;Q4;B440.00 4@;CW1;K0;H3;Q0;A440.00 3@;\
+         CP1;K8;H2;Q6;B440.00 8@;A440.00 2@;CW2;K0;H5;Q0;A420.00 5@;Z"
     ))
 }
 
@@ -416,7 +554,7 @@ fn on_refusal_no_byte_is_altered() {
         (example(), 0, (11, 73, 0)),
         (book("DD;S4,00"), 500, (4, 4, 0)),
         (
-            book(&format!("{GOLD}CA;K2;H0;Q0;B400.00 1;Z")),
+            book(&format!("{GOLD}CA;K2;H0;Q0;B400.00 1@;Z")),
             500,
             (9, 37, 0),
         ),

@@ -7,11 +7,9 @@ use std::process::ExitCode;
 use std::time::{Duration, Instant};
 
 use harness::compare::{Check, Counts};
-use harness::product;
 use harness::program::Tried;
 use harness::run::{run, shrunk, Found, Outcome, Plan, Start};
 use harness::text;
-use harness::through::Through;
 use harness::words::{words, Words, USAGE};
 
 /// From so many books on, a check that was not made or a number that did not occur is a failure.
@@ -27,23 +25,14 @@ fn main() -> ExitCode {
         eprint!("{USAGE}");
         return ExitCode::from(2);
     };
-    let through = words.through.clone();
-    let start = move || match &through {
-        Some(file) => Tried {
-            program: Box::new(Through::new(file)),
-            viewer: Box::new(Through::new(file)),
-        },
-        None => Tried {
-            program: Box::new(product::allot),
-            viewer: Box::new(product::columns),
-        },
-    };
-    if words.through.is_none() && cfg!(not(linked)) {
+    if Tried::of(words.through.as_deref()).is_none() {
         eprintln!(
             "compare: the product is x86-64 and cannot be linked in here; see --through in --help"
         );
         return ExitCode::from(2);
     }
+    let through = words.through.clone();
+    let start = move || Tried::of(through.as_deref()).expect("as before");
     match compared(&words, &start) {
         Ok(true) => ExitCode::SUCCESS,
         Ok(false) => ExitCode::FAILURE,

@@ -2,8 +2,10 @@
 #![allow(dead_code, reason = "each test file uses its own part")]
 
 use harness::compare::answer_of;
-use harness::fields::{fields, value};
+use harness::fields::{fields, groups, value};
 use harness::product::Answer;
+use harness::rearrange::Arrangement;
+use harness::trades::words;
 use second::columns::Runs;
 
 /// The second program in the form of a program that is tried.
@@ -98,4 +100,71 @@ pub fn ties_by_row_order(book: &[u8], report: &mut [u8]) -> Answer {
     };
     let named = with_values(&other, b'C', |nth, _| codes[nth].clone());
     answered_with(book, report, |_| named)
+}
+
+/// An accepted book with the stamp of every trade replaced, by day and minute of the clock.
+fn with_stamps(book: &[u8], other: impl Fn(&str, u32) -> String) -> Vec<u8> {
+    let replaced = |_: usize, value: &[u8]| {
+        let [price, lots, day, time] = words(value).expect("an accepted trade");
+        let text = |word: &[u8]| String::from_utf8_lossy(word).into_owned();
+        let number: u32 = text(time).parse().expect("a time");
+        let stamp = other(&text(day), 60 * (number / 100) + number % 100);
+        [price, lots, stamp.as_bytes()].join(&b' ')
+    };
+    with_values(&with_values(book, b'B', replaced), b'A', replaced)
+}
+
+/// Judges an accepted book as if it were another; a refused one as is right.
+fn judged_as(book: &[u8], report: &mut [u8], other: impl FnOnce(&[u8]) -> Vec<u8>) -> Answer {
+    match self::report(book) {
+        Some(_) => right(&other(book), report),
+        None => right(book, report),
+    }
+}
+
+/// A wrong program: the newest trade is the last in the book. One stamp for all makes the right program do it.
+pub fn trades_by_place(book: &[u8], report: &mut [u8]) -> Answer {
+    judged_as(book, report, |book| {
+        with_stamps(book, |_, _| "20250115 1000".to_string())
+    })
+}
+
+/// A wrong program: the day is left out, and the minute alone decides.
+pub fn trades_by_minute(book: &[u8], report: &mut [u8]) -> Answer {
+    judged_as(book, report, |book| {
+        with_stamps(book, |_, clock| stamped("20250115", clock))
+    })
+}
+
+/// A wrong program: the night of a trading day comes after its day, since 0:00 is the first minute.
+pub fn trades_by_clock(book: &[u8], report: &mut [u8]) -> Answer {
+    judged_as(book, report, |book| with_first_minute(book, 0))
+}
+
+/// A wrong program: a trading day begins at 20:00.
+pub fn trades_from_20_00(book: &[u8], report: &mut [u8]) -> Answer {
+    judged_as(book, report, |book| with_first_minute(book, 20 * 60))
+}
+
+/// A wrong program: of equal stamps the earlier place is the newer. With all trades the other way round in the book
+/// the right program does it.
+pub fn ties_by_the_earlier_place(book: &[u8], report: &mut [u8]) -> Answer {
+    judged_as(book, report, |book| {
+        let all: Vec<usize> = (0..groups(book).len()).collect();
+        let mut turned = Arrangement::of_customers(book, &all);
+        turned.trades.iter_mut().for_each(|order| order.reverse());
+        turned.of(book)
+    })
+}
+
+/// The book whose right order is the order that this one would have, were this the first minute of a trading day.
+fn with_first_minute(book: &[u8], first: u32) -> Vec<u8> {
+    let right_first = 19 * 60 + 50;
+    with_stamps(book, |day, clock| {
+        stamped(day, (clock + 1_440 - first + right_first) % 1_440)
+    })
+}
+
+fn stamped(day: &str, clock: u32) -> String {
+    format!("{day} {:02}{:02}", clock / 60, clock % 60)
 }

@@ -2,9 +2,11 @@
 
 use super::damage_bytes as bytes;
 use super::damage_draft as drafts;
+use super::damage_stamps as stamped;
 use super::draft::Draft;
 use super::edges;
 use super::rng::Rng;
+use super::stamps::arrange;
 use super::whole;
 
 /// A damage is done to the numbers, before the book is written, or to its bytes.
@@ -15,7 +17,7 @@ enum Damage {
 }
 use Damage::{Bytes, Draft as Numbers};
 
-const DAMAGES: [(u64, (&str, Damage)); 24] = [
+const DAMAGES: [(u64, (&str, Damage)); 29] = [
     (
         6,
         ("edges out of order", Numbers(drafts::edges_out_of_order)),
@@ -48,6 +50,11 @@ const DAMAGES: [(u64, (&str, Damage)); 24] = [
     (7, ("cut", Bytes(bytes::cut))),
     (5, ("bytes after Z", Bytes(bytes::bytes_after_z))),
     (2, ("value in Z", Bytes(bytes::value_in_z))),
+    (8, ("day replaced", Bytes(stamped::day_replaced))),
+    (8, ("time replaced", Bytes(stamped::time_replaced))),
+    (5, ("stamp misspelt", Bytes(stamped::stamp_misspelt))),
+    (6, ("parts of a trade", Bytes(stamped::stamp_parts))),
+    (5, ("blanks of a trade", Bytes(stamped::stamp_blanks))),
     (
         1,
         ("past the most bytes", Bytes(bytes::past_the_most_bytes)),
@@ -69,6 +76,7 @@ pub fn book(rng: &mut Rng) -> (&'static str, Vec<u8>) {
             damage(rng, &mut draft);
         }
     }
+    arrange(rng, &mut draft);
     let mut bytes = draft.bytes();
     for (_, damage) in &damages {
         if let Bytes(damage) = damage {

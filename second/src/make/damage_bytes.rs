@@ -42,21 +42,26 @@ const VALUES: &[&[u8]] = &[
     b"8,000",
     b",",
     b"07,",
-    b"400,00 1",
-    b"400.00 1,000",
-    b"400.00 0",
-    b"400.00 1",
-    b"400.00  1",
-    b"400.00\t1",
-    b"400.00 01",
+    b"400,00 1 20250115 1000",
+    b"400.00 1,000 20250115 1000",
+    b"400.00 1 20250115,1000",
+    b"400.00 0 20250115 1000",
+    b"400.00 1 20250115 1000",
+    b"400.00  1 20250115 1000",
+    b"400.00\t1 20250115 1000",
+    b"400.00 01 20250115 1000",
     b"400.00 ",
-    b" 400.00 1",
-    b"400.00 1 ",
-    b"400.00 1000000",
-    b"400.00 1000001",
+    b" 400.00 1 20250115 1000",
+    b"400.00 1 20250115 1000 ",
+    b"400.00 1 20250115 1000\n",
+    b"400.00 1000000 20250115 1000",
+    b"400.00 1000001 20250115 1000",
     b"400.00",
-    b"0.00 1",
-    b"99999.99 1",
+    b"400.00 1",
+    b"400,00 1",
+    b"0.00 1 20250115 1000",
+    b"99999.99 1 20250115 1000",
+    b"20250115 1000",
     b"D",
     b"U",
     b"d",
@@ -278,7 +283,17 @@ fn fields(bytes: &[u8]) -> Vec<Range<usize>> {
 }
 
 fn any_field(rng: &mut Rng, bytes: &[u8]) -> Option<Range<usize>> {
+    one_of(rng, fields(bytes))
+}
+
+/// Any field with one of these tags.
+pub fn any_field_of(rng: &mut Rng, bytes: &[u8], tags: &[u8]) -> Option<Range<usize>> {
     let mut fields = fields(bytes);
+    fields.retain(|field| tags.contains(&bytes[field.start]));
+    one_of(rng, fields)
+}
+
+fn one_of(rng: &mut Rng, mut fields: Vec<Range<usize>>) -> Option<Range<usize>> {
     if fields.is_empty() {
         return None;
     }
@@ -294,7 +309,7 @@ fn change_value(rng: &mut Rng, bytes: &mut Vec<u8>, change: impl FnOnce(&mut Rng
     }
 }
 
-fn set_value(bytes: &mut Vec<u8>, field: Range<usize>, value: &[u8]) {
+pub fn set_value(bytes: &mut Vec<u8>, field: Range<usize>, value: &[u8]) {
     // Damaged length bytes can make a field of 65,535 bytes: one more can't be told.
     let Ok(length) = u16::try_from(value.len()) else {
         return;

@@ -1,6 +1,8 @@
 //! A book as numbers, and how it is written as bytes. Changes of the book's format
 //! come here first.
 
+use super::stamps::Stamp;
+
 /// The largest figures of document 01.
 pub const MOST_PRICE: u32 = 9_999_999;
 pub const MOST_RATE: u32 = 99_999;
@@ -12,6 +14,20 @@ pub struct Trade {
     /// In fen.
     pub price: u32,
     pub lots: u32,
+    pub stamp: Stamp,
+}
+
+impl Trade {
+    /// A trade that has no stamp of its own yet: all trades get theirs at the end, when the
+    /// draft is arranged.
+    pub fn new(bought: bool, price: u32, lots: u32) -> Self {
+        Trade {
+            bought,
+            price,
+            lots,
+            stamp: Stamp::default(),
+        }
+    }
 }
 
 #[derive(Clone, Debug)]
@@ -20,7 +36,7 @@ pub struct Group {
     pub long: u32,
     pub short: u32,
     pub unfilled: u32,
-    /// Oldest first.
+    /// Oldest first, until the draft is arranged; then in the order of the book.
     pub trades: Vec<Trade>,
 }
 
@@ -44,9 +60,9 @@ pub struct Draft {
 
 impl Draft {
     pub fn bytes(&self) -> Vec<u8> {
-        // No trade field has more than 19 bytes, no group more than 45 beside them.
+        // No trade field has more than 33 bytes, no group more than 45 beside them.
         let trades: usize = self.groups.iter().map(|group| group.trades.len()).sum();
-        let most = 50 + 45 * self.groups.len() + 19 * trades;
+        let most = 50 + 45 * self.groups.len() + 33 * trades;
         let mut book = Book {
             bytes: Vec::with_capacity(most),
         };
@@ -99,6 +115,10 @@ fn write_trade(value: &mut Vec<u8>, trade: &Trade) {
     point(value, trade.price, 2);
     value.push(b' ');
     digits(value, trade.lots, 1);
+    value.push(b' ');
+    digits(value, trade.stamp.date(), 8);
+    value.push(b' ');
+    digits(value, trade.stamp.clock(), 4);
 }
 
 /// A number with its last `decimals` digits after a point.

@@ -13,8 +13,9 @@ type Make = fn(&mut Rng) -> Draft;
 
 /// The kinds with their weights: books of tens of thousands of bytes are rare, so
 /// that millions of books are made quickly.
-const KINDS: [(u64, (&str, Make)); 10] = [
-    (40, ("edge price", at_price::draft)),
+const KINDS: [(u64, (&str, Make)); 11] = [
+    (37, ("edge price", at_price::draft)),
+    (3, ("about a hundred trades", sizes::about_a_hundred)),
     (25, ("ties", ties)),
     (10, ("nested codes", nested_codes)),
     (8, ("no net position", no_net)),
@@ -193,9 +194,7 @@ fn largest_group(rng: &mut Rng, terms: &Terms, code: Vec<u8>) -> Group {
 }
 
 fn largest_trade(rng: &mut Rng, bought: bool) -> Trade {
-    Trade {
-        bought,
-        price: rng.pick(&[1, 2, MOST_PRICE - 1, MOST_PRICE]),
-        lots: rng.pick(&[1, MOST_LOTS - 1, MOST_LOTS]),
-    }
+    let price = rng.pick(&[1, 2, MOST_PRICE - 1, MOST_PRICE]);
+    let lots = rng.pick(&[1, MOST_LOTS - 1, MOST_LOTS]);
+    Trade::new(bought, price, lots)
 }

@@ -2,7 +2,8 @@
 //!
 //! A book is drafted as numbers ([`draft`]), in one of three families: whole books
 //! ([`whole`]), books at the edges of the rules ([`edges`]) and damaged books
-//! ([`damage`]). The generator knows how a book is written but takes no code from
+//! ([`damage`]). Then the trades get their stamps and the order of an export
+//! ([`stamps`]). The generator knows how a book is written but takes no code from
 //! the reader, so a mistake there isn't hidden here. The same seed and index make
 //! the same bytes on every machine.
 
@@ -11,15 +12,18 @@ mod codes;
 mod damage;
 mod damage_bytes;
 mod damage_draft;
+mod damage_stamps;
 mod draft;
 mod edges;
 mod groups;
 mod rng;
 mod sizes;
+mod stamps;
 mod trades;
 mod whole;
 
 use rng::Rng;
+use stamps::arrange;
 
 /// What a generated book is meant to try.
 #[derive(Clone, Copy, Debug, PartialEq, Eq, Hash)]
@@ -44,27 +48,25 @@ pub struct Made {
 /// The book of this seed and index. Any index can be made by itself.
 pub fn book(seed: u64, index: u64) -> Made {
     let rng = &mut Rng::new(seed, index);
-    match rng.below(20) {
-        0..=6 => Made {
-            family: Family::Whole,
-            kind: "whole",
-            bytes: whole::draft(rng).bytes(),
-        },
+    let (family, kind, mut draft) = match rng.below(20) {
+        0..=6 => (Family::Whole, "whole", whole::draft(rng)),
         7..=11 => {
             let (kind, draft) = edges::draft(rng);
-            Made {
-                family: Family::Edge,
-                kind,
-                bytes: draft.bytes(),
-            }
+            (Family::Edge, kind, draft)
         }
         _ => {
             let (kind, bytes) = damage::book(rng);
-            Made {
+            return Made {
                 family: Family::Damaged,
                 kind,
                 bytes,
-            }
+            };
         }
+    };
+    arrange(rng, &mut draft);
+    Made {
+        family,
+        kind,
+        bytes: draft.bytes(),
     }
 }

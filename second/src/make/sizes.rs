@@ -1,13 +1,14 @@
-//! Books of an exact number of bytes, and customers with thousands of trades.
+//! Books of an exact number of bytes, and customers with about a hundred trades or thousands.
 
 use super::draft::{Draft, Group, Trade, MOST_LOTS, MOST_PRICE};
 use super::rng::Rng;
 use super::whole;
 
-/// The shortest and the longest trade field: `0.01 1` and `99999.99 1000000` with
-/// their tag and length bytes.
-const SHORTEST: usize = 9;
-const LONGEST: usize = 19;
+/// The bytes that all trade fields have: tag and length, a point, three blanks, day and time.
+const FIXED: usize = 3 + 1 + 3 + 8 + 4;
+/// The shortest and the longest trade field: `0.01 1` and `99999.99 1000000` with the rest.
+const SHORTEST: usize = FIXED + 3 + 1;
+const LONGEST: usize = FIXED + 7 + 7;
 
 /// A book of 59,999, 60,000 or 60,001 bytes, whole but for its size.
 pub fn exact(rng: &mut Rng) -> Draft {
@@ -22,27 +23,26 @@ pub fn exact(rng: &mut Rng) -> Draft {
     draft
 }
 
-/// Trades that take exactly this many bytes, at least the shortest's.
+/// Trades that take exactly this many bytes, some tens of thousands. First their number is
+/// drawn, since the longest trade is not twice as long as the shortest.
 fn padding(rng: &mut Rng, mut gap: usize) -> Vec<Trade> {
-    let mut trades = Vec::with_capacity(gap / SHORTEST);
-    while gap > 0 {
-        // What stays must be nothing or at least the shortest trade.
-        let size = if gap <= LONGEST {
-            gap
-        } else {
-            let most = LONGEST.min(gap - SHORTEST);
-            rng.between(SHORTEST as u32, most as u32) as usize
-        };
+    let count = rng.between(gap.div_ceil(LONGEST) as u32, (gap / SHORTEST) as u32) as usize;
+    let mut trades = Vec::with_capacity(count);
+    for after in (0..count).rev() {
+        // What stays must be as much as the trades after this one can take.
+        let least = SHORTEST.max(gap.saturating_sub(LONGEST * after));
+        let most = LONGEST.min(gap - SHORTEST * after);
+        let size = rng.between(least as u32, most as u32) as usize;
         trades.push(trade_of_size(rng, size));
         gap -= size;
     }
     trades
 }
 
-/// A trade whose field has this many bytes: 3, a price of 3 to 7 digits with a point,
-/// a blank and lots of 1 to 7 digits.
+/// A trade whose field has this many bytes: the fixed ones, 3 to 7 digits of a price and 1
+/// to 7 of lots.
 fn trade_of_size(rng: &mut Rng, size: usize) -> Trade {
-    let digits = size as u32 - 5;
+    let digits = (size - FIXED) as u32;
     let of_price = rng.between(3.max(digits.saturating_sub(7)), 7.min(digits - 1));
     let least_price = if of_price == 3 {
         1
@@ -50,19 +50,20 @@ fn trade_of_size(rng: &mut Rng, size: usize) -> Trade {
         10_u32.pow(of_price - 1)
     };
     let least_lots = 10_u32.pow(digits - of_price - 1);
-    Trade {
-        bought: rng.one_in(2),
-        price: rng.between(least_price, 10_u32.pow(of_price) - 1),
-        lots: rng.between(least_lots, (10 * least_lots - 1).min(MOST_LOTS)),
-    }
+    let bought = rng.one_in(2);
+    let price = rng.between(least_price, 10_u32.pow(of_price) - 1);
+    let lots = rng.between(least_lots, (10 * least_lots - 1).min(MOST_LOTS));
+    Trade::new(bought, price, lots)
 }
 
-/// What the trades of a customer with thousands of them are like.
+/// What the trades of a customer with many of them are like.
 #[derive(Clone, Copy)]
 struct Run {
     most_price: u32,
     least_lots: u32,
     most_lots: u32,
+    least_trades: u32,
+    most_trades: u32,
 }
 
 /// A whole book in which one customer has thousands of trades.
@@ -70,35 +71,81 @@ pub fn many_trades(rng: &mut Rng) -> Draft {
     let count = rng.between(1, 4) as usize;
     let mut draft = whole::of_count(rng, count);
     let double = 2 * draft.terms.settlement;
-    // No trade takes more than 15 bytes, so the longest runs stay below 60,000 bytes.
-    // With a million lots in each, a run sums to as many as 3,700,000,000 lots.
-    let (most_price, least_lots, most_lots) = rng.pick(&[
-        (double.min(MOST_PRICE), 1, 600),
-        (double.min(999), 1, MOST_LOTS),
-        (double.min(999), MOST_LOTS, MOST_LOTS),
+    // Trades of at most 29 bytes, or of just 23: the longest runs stay below 60,000 bytes.
+    // With a million lots in each, a run sums to as many as 2,000,000,000 lots.
+    let (most_price, least_lots, most_lots, most_trades) = rng.pick(&[
+        (double.min(MOST_PRICE), 1, 600, 2_000),
+        (double.min(999), 1, MOST_LOTS, 2_000),
+        (double.min(999), MOST_LOTS, MOST_LOTS, 2_000),
+        (double.min(999), 1, 9, 2_500),
     ]);
     let run = Run {
         most_price,
         least_lots,
         most_lots,
+        least_trades: 1_000,
+        most_trades,
     };
     let deep = rng.place(count);
     let group = &mut draft.groups[deep];
     let long = rng.one_in(2);
-    group.trades = run_of_trades(rng, run, long);
+    let all_on_side = rng.one_in(2);
+    group.trades = run_of_trades(
+        rng,
+        run,
+        |rng| if all_on_side { long } else { rng.one_in(2) },
+    );
     hold_of_trades(rng, group, long);
     group.unfilled = rng.between(0, group.locked_held(&draft.terms));
     draft
 }
 
-/// Thousands of trades, half of them or all on the side asked for.
-fn run_of_trades(rng: &mut Rng, run: Run, long: bool) -> Vec<Trade> {
-    let all_on_side = rng.one_in(2);
-    (0..rng.between(1_000, 3_700))
-        .map(|_| Trade {
-            bought: if all_on_side { long } else { rng.one_in(2) },
-            price: rng.between(1, run.most_price),
-            lots: rng.between(run.least_lots, run.most_lots),
+/// A whole book in which one to three customers have 100 to 160 trades each. Mostly 127, 128
+/// or 129 of them are on the net side: about as many as a program may want to keep, if it has
+/// a limit.
+pub fn about_a_hundred(rng: &mut Rng) -> Draft {
+    let deep = rng.between(1, 3) as usize;
+    let others = rng.between(0, 2) as usize;
+    let mut draft = whole::of_count(rng, deep + others);
+    let most_price = (2 * draft.terms.settlement).min(MOST_PRICE);
+    for group in &mut draft.groups[..deep] {
+        let (least_lots, most_lots) = rng.weighted(&[
+            (3, (1, 9)),
+            (3, (1, 600)),
+            (2, (1, 7_000)),
+            (1, (1, MOST_LOTS)),
+            (1, (MOST_LOTS, MOST_LOTS)),
+        ]);
+        let (least, most) = rng.weighted(&[(1, (60, 160)), (3, (127, 129))]);
+        let on_side = rng.between(least, most);
+        let all = rng.between(on_side.max(100), 160);
+        let run = |trades| Run {
+            most_price,
+            least_lots,
+            most_lots,
+            least_trades: trades,
+            most_trades: trades,
+        };
+        let long = rng.one_in(2);
+        group.trades = run_of_trades(rng, run(on_side), |_| long);
+        group
+            .trades
+            .extend(run_of_trades(rng, run(all - on_side), |_| !long));
+        rng.shuffle(&mut group.trades);
+        hold_of_trades(rng, group, long);
+        group.unfilled = rng.between(0, group.locked_held(&draft.terms));
+    }
+    rng.shuffle(&mut draft.groups);
+    draft
+}
+
+/// As many trades as the run has, each on the side that is drawn for it.
+fn run_of_trades(rng: &mut Rng, run: Run, side: impl Fn(&mut Rng) -> bool) -> Vec<Trade> {
+    (0..rng.between(run.least_trades, run.most_trades))
+        .map(|_| {
+            let bought = side(rng);
+            let price = rng.between(1, run.most_price);
+            Trade::new(bought, price, rng.between(run.least_lots, run.most_lots))
         })
         .collect()
 }

@@ -104,11 +104,7 @@ fn loose(rng: &mut Rng, wanted: Wanted, bought: bool) -> Trade {
     let near = wanted.settlement / 2 + rng.between(0, wanted.settlement);
     let far = rng.between(1, MOST_PRICE);
     let price = if rng.one_in(4) { far } else { near };
-    Trade {
-        bought,
-        price: price.clamp(1, MOST_PRICE),
-        lots: lots(rng),
-    }
+    Trade::new(bought, price.clamp(1, MOST_PRICE), lots(rng))
 }
 
 /// Lots of a trade or a position: mostly few, sometimes many.
@@ -132,9 +128,6 @@ fn price(wanted: Wanted, gain: i64) -> i64 {
 }
 
 fn trade(wanted: Wanted, (lots, gain): Part) -> Trade {
-    Trade {
-        bought: wanted.long,
-        price: price(wanted, gain).clamp(1, i64::from(MOST_PRICE)) as u32,
-        lots,
-    }
+    let price = price(wanted, gain).clamp(1, i64::from(MOST_PRICE)) as u32;
+    Trade::new(wanted.long, price, lots)
 }

@@ -9,11 +9,20 @@ pub const GOLD: &str = "DD;S400.00;L8.000;U8.000;V4.000;";
 /// The same, locked up.
 pub const GOLD_UP: &str = "DU;S400.00;L8.000;U8.000;V4.000;";
 
-/// A book from text: fields are parted by semicolons, the first byte is the tag.
+/// The day and time that `@` stands for in a trade: one for all, so that the order is the
+/// book's. With the two blanks they are 14 bytes.
+pub const STAMP: &str = " 20250115 1000";
+
+/// A book from text: fields are parted by semicolons, the first byte is the tag. In a
+/// trade `@` stands for [`STAMP`].
 pub fn book(text: &str) -> Vec<u8> {
     text.split(';')
         .filter(|part| !part.is_empty())
-        .flat_map(|part| field(part.as_bytes()[0], &part.as_bytes()[1..]))
+        .flat_map(|part| {
+            let (tag, value) = part.split_at(1);
+            let stamp = if "BA".contains(tag) { STAMP } else { "@" };
+            field(tag.as_bytes()[0], value.replace('@', stamp).as_bytes())
+        })
         .collect()
 }
 

@@ -1,6 +1,6 @@
 //! An accepted book worked out again in the slowest and most direct way: figures read
-//! as text, every trade's counted part by a formula, spare lots given one at a time by
-//! looking at everybody.
+//! as text, every trade held against every other for which is newer, its counted part by a
+//! formula, spare lots given one at a time by looking at everybody.
 
 use super::{fields, Line, Report};
 
@@ -29,6 +29,52 @@ struct Terms {
     locked_long: bool,
     settlement: i128,
     edges: [i128; 3],
+    newer: Newer,
+}
+
+/// A trade on the net side: its figures, its stamp's two words and its turn among them.
+pub struct Traded<'a> {
+    price: i128,
+    lots: i128,
+    day: &'a str,
+    time: &'a str,
+    turn: usize,
+}
+
+/// Which of two trades is newer: the first one?
+pub type Newer = fn(&Traded, &Traded) -> bool;
+
+/// Request [2] in words of the clock: a later day; on one day a time before 19:50 after one from 19:50 on; then the
+/// later time; then the later place.
+pub fn by_stamp(one: &Traded, other: &Traded) -> bool {
+    let of_evening = |trade: &Traded| trade.time >= "1950";
+    if one.day != other.day {
+        one.day > other.day
+    } else if of_evening(one) != of_evening(other) {
+        of_evening(other)
+    } else if one.time != other.time {
+        one.time > other.time
+    } else {
+        one.turn > other.turn
+    }
+}
+
+/// Three wrong orders: that of the book, which document 01 had; that of the clock within a day; and of equal stamps the
+/// earlier place newer.
+pub fn by_place(one: &Traded, other: &Traded) -> bool {
+    one.turn > other.turn
+}
+
+pub fn by_clock(one: &Traded, other: &Traded) -> bool {
+    (one.day, one.time, one.turn) > (other.day, other.time, other.turn)
+}
+
+pub fn by_stamp_turned(one: &Traded, other: &Traded) -> bool {
+    if (one.day, one.time) == (other.day, other.time) {
+        one.turn < other.turn
+    } else {
+        by_stamp(one, other)
+    }
 }
 
 /// A figure with its point left out.
@@ -38,11 +84,17 @@ fn figure(value: &[u8]) -> i128 {
 }
 
 pub fn work(book: &[u8]) -> Worked {
+    work_by(by_stamp, book)
+}
+
+/// The same with the trades in this order.
+pub fn work_by(newer: Newer, book: &[u8]) -> Worked {
     let all = fields(book);
     let terms = Terms {
         locked_long: all[0].1 == b"D",
         settlement: figure(all[1].1),
         edges: [figure(all[2].1), figure(all[3].1), figure(all[4].1)],
+        newer,
     };
     let starts: Vec<usize> = (0..all.len()).filter(|&at| all[at].0 == b'C').collect();
     let mut people = Vec::new();
@@ -95,26 +147,18 @@ fn person(terms: &Terms, group: &[(u8, &[u8])]) -> Person {
 /// and at least 0.
 fn gain(terms: &Terms, is_long: bool, net: i128, trades: &[(u8, &[u8])]) -> i128 {
     let tag = if is_long { b'B' } else { b'A' };
-    let side: Vec<(i128, i128)> = trades
-        .iter()
-        .filter(|(name, _)| *name == tag)
-        .map(|(_, value)| {
-            let blank = value
-                .iter()
-                .position(|&byte| byte == b' ')
-                .expect("a blank");
-            (figure(&value[..blank]), figure(&value[blank + 1..]))
-        })
+    let of_side = trades.iter().filter(|(name, _)| *name == tag);
+    let side: Vec<Traded> = (of_side.enumerate())
+        .map(|(turn, (_, value))| traded(turn, value))
         .collect();
-    let all_lots: i128 = side.iter().map(|(_, lots)| lots).sum();
+    let all_lots: i128 = side.iter().map(|trade| trade.lots).sum();
     assert!(all_lots >= net, "an accepted book has enough trades");
-    let mut not_newer = 0;
     let mut total = 0;
-    for (price, lots) in side {
-        not_newer += lots;
-        let newer = all_lots - not_newer;
-        let counted = (net - newer).clamp(0, lots);
-        let each = terms.settlement - price;
+    for trade in &side {
+        let newer = side.iter().filter(|other| (terms.newer)(other, trade));
+        let newer: i128 = newer.map(|other| other.lots).sum();
+        let counted = (net - newer).clamp(0, trade.lots);
+        let each = terms.settlement - trade.price;
         total += if is_long {
             each * counted
         } else {
@@ -122,6 +166,22 @@ fn gain(terms: &Terms, is_long: bool, net: i128, trades: &[(u8, &[u8])]) -> i128
         };
     }
     total
+}
+
+/// The value of a trade, cut at its three blanks.
+fn traded(turn: usize, value: &[u8]) -> Traded<'_> {
+    let text = std::str::from_utf8(value).expect("a trade is ASCII");
+    let words: Vec<&str> = text.split(' ').collect();
+    let [price, lots, day, time] = words[..] else {
+        panic!("a trade has four words");
+    };
+    Traded {
+        price: figure(price.as_bytes()),
+        lots: figure(lots.as_bytes()),
+        day,
+        time,
+        turn,
+    }
 }
 
 fn cascade(mut people: Vec<Person>) -> Worked {

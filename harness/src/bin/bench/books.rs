@@ -1,13 +1,30 @@
 //! The books that are timed. Each is made from a fixed formula, so that two runs time the same bytes.
 
 /// A book and the name it has in the tables.
+#[derive(Clone)]
 pub struct Book {
     pub name: &'static str,
     pub bytes: Vec<u8>,
 }
 
-/// An opening trade: its tag, price in fen and lots.
-type Trade = (u8, u64, u64);
+/// An opening trade: its tag, price in fen and lots, and how many minutes after the first minute of the first trading day.
+#[derive(Clone, Copy)]
+struct Trade {
+    side: u8,
+    price: u64,
+    lots: u64,
+    minute: u64,
+}
+
+/// In which order the trades of a customer stand.
+#[derive(Clone, Copy)]
+enum Order {
+    InTime,
+    /// By day and then by the clock: the night after the day.
+    ByClock,
+    NewestFirst,
+    Shuffled,
+}
 
 /// What a customer's trades make of it.
 #[derive(Clone, Copy)]
@@ -30,6 +47,7 @@ struct Shape {
     bytes: u64,
     kind: fn(u64) -> Kind,
     lots: u64,
+    order: Order,
 }
 
 /// S 400.00 with gold's edges, locked at the lower limit.
@@ -48,11 +66,23 @@ pub fn all() -> Vec<Book> {
     vec![
         named("small", listing()),
         named("small, one customer", one_trade()),
-        named("typical", typical()),
-        named("dense", dense()),
-        named("one tier", one_tier()),
-        named("one customer", one_customer(1)),
-        named("one customer, half old", one_customer(2)),
+        named("typical", typical(Order::InTime)),
+        named("typical, by clock", typical(Order::ByClock)),
+        named("typical, shuffled", typical(Order::Shuffled)),
+        named("dense", dense(Order::InTime)),
+        named("dense, shuffled", dense(Order::Shuffled)),
+        named("one tier", one_tier(Order::InTime)),
+        named("one tier, shuffled", one_tier(Order::Shuffled)),
+        named("one customer", one_customer(1, Order::InTime)),
+        named("all count, shuffled", one_customer(1, Order::Shuffled)),
+        named("one customer, half old", one_customer(2, Order::InTime)),
+        named("half old, shuffled", one_customer(2, Order::Shuffled)),
+        named("half old, reversed", one_customer(2, Order::NewestFirst)),
+        named("most trades", most_trades(Order::InTime)),
+        named("most trades, shuffled", most_trades(Order::Shuffled)),
+        named("most trades, reversed", most_trades(Order::NewestFirst)),
+        named("128 trades each, shuffled", full_stores(Order::Shuffled)),
+        named("128 trades each, reversed", full_stores(Order::NewestFirst)),
         named("refused at the last byte", refused()),
     ]
 }
@@ -74,60 +104,107 @@ pub fn growing() -> Vec<Book> {
                 bytes,
                 kind: typical_kind,
                 lots: 30,
+                order: Order::InTime,
             }),
         )
     };
     sizes.into_iter().map(book).collect()
 }
 
+/// Books of one customer whose trades are shuffled, half of its lots old, that differ in size alone.
+pub fn growing_shuffled() -> Vec<Book> {
+    let names = [
+        "shuffled, 6 KB",
+        "shuffled, 12 KB",
+        "shuffled, 24 KB",
+        "shuffled, 48 KB",
+        "shuffled, 60 KB",
+    ];
+    growing_customer(names, Order::Shuffled)
+}
+
+/// The same with the newest trade first.
+pub fn growing_reversed() -> Vec<Book> {
+    let names = [
+        "reversed, 6 KB",
+        "reversed, 12 KB",
+        "reversed, 24 KB",
+        "reversed, 48 KB",
+        "reversed, 60 KB",
+    ];
+    growing_customer(names, Order::NewestFirst)
+}
+
+fn growing_customer(names: [&'static str; 5], order: Order) -> Vec<Book> {
+    let sizes = [6_000, 12_000, 24_000, 48_000, LONGEST];
+    let book = |(name, bytes)| named(name, one_customer_of(bytes, 2, order));
+    names.into_iter().zip(sizes).map(book).collect()
+}
+
 fn named(name: &'static str, bytes: Vec<u8>) -> Book {
     Book { name, bytes }
 }
 
-/// Document 01's listing.
+/// Document 01's listing: its trades have one day and time.
 fn listing() -> Vec<u8> {
     let mut book = terms();
-    let customers: [(&str, [u64; 3], &[Trade]); 5] = [
-        ("W3", [0, 1, 0], &[(b'A', 41_000, 1)]),
-        ("P2", [4, 0, 4], &[(b'B', 44_000, 4)]),
-        ("W1", [0, 3, 0], &[(b'A', 44_000, 3)]),
-        ("P1", [8, 2, 6], &[(b'B', 44_000, 8), (b'A', 44_000, 2)]),
-        ("W2", [0, 5, 0], &[(b'A', 42_000, 5)]),
-    ];
-    for (code, held, trades) in customers {
-        put_customer(&mut book, code, held, trades);
-    }
+    let [w3, p2, w1] = [sold(41_000, 1), bought(44_000, 4), sold(44_000, 3)];
+    let [p1, other, w2] = [bought(44_000, 8), sold(44_000, 2), sold(42_000, 5)];
+    put_customer(&mut book, "W3", [0, 1, 0], &[w3]);
+    put_customer(&mut book, "P2", [4, 0, 4], &[p2]);
+    put_customer(&mut book, "W1", [0, 3, 0], &[w1]);
+    put_customer(&mut book, "P1", [8, 2, 6], &[p1, other]);
+    put_customer(&mut book, "W2", [0, 5, 0], &[w2]);
     closed(book)
 }
 
 /// One customer with one trade, who is pending: the least that a call can be asked to work out.
 fn one_trade() -> Vec<u8> {
     let mut book = terms();
-    put_customer(&mut book, "P1", [4, 0, 4], &[(b'B', 44_000, 4)]);
+    put_customer(&mut book, "P1", [4, 0, 4], &[bought(44_000, 4)]);
     closed(book)
 }
 
-fn typical() -> Vec<u8> {
+/// At 10:00 of 2025-01-15, as in examples/listing.book.
+fn bought(price: u64, lots: u64) -> Trade {
+    Trade {
+        side: b'B',
+        price,
+        lots,
+        minute: (15 * 336 + 14) * 1_440 + 850,
+    }
+}
+
+fn sold(price: u64, lots: u64) -> Trade {
+    Trade {
+        side: b'A',
+        ..bought(price, lots)
+    }
+}
+
+fn typical(order: Order) -> Vec<u8> {
     shaped(&Shape {
         customers: 256,
         bytes: 40_000,
         kind: typical_kind,
         lots: 30,
+        order,
     })
 }
 
 /// Every customer pending or in a tier. Trades of the same lots make equal weights, and so equal remainders.
-fn dense() -> Vec<u8> {
+fn dense(order: Order) -> Vec<u8> {
     shaped(&Shape {
         customers: 256,
         bytes: 59_900,
         kind: dense_kind,
         lots: 1,
+        order,
     })
 }
 
 /// 255 customers in tier 1, against one who is pending.
-fn one_tier() -> Vec<u8> {
+fn one_tier(order: Order) -> Vec<u8> {
     shaped(&Shape {
         customers: 256,
         bytes: 30_000,
@@ -136,34 +213,107 @@ fn one_tier() -> Vec<u8> {
             _ => Kind::Tier(1),
         },
         lots: 4,
+        order,
     })
 }
 
 /// One customer whose trades fill the book to its last byte. One lot in `part` is held; the others are old and do not count.
-fn one_customer(part: u64) -> Vec<u8> {
+fn one_customer(part: u64, order: Order) -> Vec<u8> {
+    one_customer_of(LONGEST, part, order)
+}
+
+/// The same of a book of about so many bytes.
+fn one_customer_of(bytes: u64, part: u64, order: Order) -> Vec<u8> {
     let head = terms().len() as u64 + 3 * 4 + 8 + 6 + 1 + 6;
-    let room = LONGEST - head - 3;
-    // A trade of 3 digits of lots takes 13 bytes; those of 4 digits take up what is left.
-    let (count, long) = (room / 13, room % 13);
-    let trades: Vec<_> = (0..count)
-        .map(|n| {
-            let lots = if n < long {
+    let room = bytes - head - 3;
+    // A trade of 3 digits of lots takes 27 bytes; those of 4 digits take up what is left.
+    let (count, long) = (room / 27, room % 27);
+    let mut trades: Vec<_> = (0..count)
+        .map(|n| Trade {
+            side: b'B',
+            price: 43_300 + mixed(n) % 2_000,
+            lots: if n < long {
                 1_000
             } else {
                 100 + mixed(n) % 100
-            };
-            (b'B', 43_300 + mixed(n) % 2_000, lots)
+            },
+            minute: minute(n),
         })
         .collect();
-    let net = trades.iter().map(|trade| trade.2).sum::<u64>() / part;
+    let net = trades.iter().map(|trade| trade.lots).sum::<u64>() / part;
+    put_in_order(order, &mut trades, 0);
     let mut book = terms();
     put_customer(&mut book, "GOLD0001", [net, 0, net], &trades);
     closed(book)
 }
 
+/// One customer with as many trades as a book can have: the shortest, of 23 bytes, and S is 4.00. Half of its lots are
+/// old and do not count.
+fn most_trades(order: Order) -> Vec<u8> {
+    let mut book = Vec::new();
+    for (tag, value) in TERMS {
+        put(&mut book, tag, if tag == b'S' { "4.00" } else { value });
+    }
+    // Code, K, H and Q take up to 26 bytes, and Z takes 3.
+    let count = (LONGEST - book.len() as u64 - 26 - 3) / 23;
+    let mut trades: Vec<_> = (0..count)
+        .map(|n| Trade {
+            side: b'B',
+            price: 433 + mixed(n) % 200,
+            lots: 1 + mixed(n) % 9,
+            minute: minute(n),
+        })
+        .collect();
+    let net = trades.iter().map(|trade| trade.lots).sum::<u64>() / 2;
+    put_in_order(order, &mut trades, 0);
+    put_customer(&mut book, "GOLD", [net, 0, net], &trades);
+    closed(book)
+}
+
+/// Customers with as many trades on the net side as the product stores, and as many customers as fit with trades of 27
+/// bytes. Half of the lots are old and do not count.
+fn full_stores(order: Order) -> Vec<u8> {
+    let mut book = terms();
+    for who in 0..17 {
+        let kind = dense_kind(who);
+        let mut trades: Vec<_> = (0..128)
+            .map(|n| Trade {
+                // Three digits.
+                lots: 100 + mixed(1_000 * who + n) % 900,
+                minute: minute(n),
+                ..trade(kind, mixed(1_000 * who + n), 1)
+            })
+            .collect();
+        put_in_order(order, &mut trades, who);
+        let held = trades.iter().map(|trade| trade.lots).sum::<u64>() / 2;
+        put_customer(&mut book, &code(who), position(kind, held, who), &trades);
+    }
+    closed(book)
+}
+
+/// The minute of a customer's n-th trade, some of them equal: about 40 trades a trading day.
+fn minute(n: u64) -> u64 {
+    36 * n + mixed(n) % 37
+}
+
+/// Puts a customer's trades, which are oldest first, in another order.
+fn put_in_order(order: Order, trades: &mut [Trade], who: u64) {
+    match order {
+        Order::InTime => (),
+        Order::ByClock => trades.sort_by_key(|trade| stamp(trade.minute)),
+        Order::NewestFirst => trades.reverse(),
+        Order::Shuffled => {
+            for last in (1..trades.len()).rev() {
+                let drawn = mixed(3_000 * who + last as u64);
+                trades.swap(last, drawn as usize % (last + 1));
+            }
+        }
+    }
+}
+
 /// The typical book with one byte after its `Z`.
 fn refused() -> Vec<u8> {
-    let mut book = typical();
+    let mut book = typical(Order::InTime);
     book.push(b'Z');
     book
 }
@@ -206,16 +356,21 @@ fn shaped(shape: &Shape) -> Vec<u8> {
 fn put_shaped(book: &mut Vec<u8>, shape: &Shape, who: u64, end: u64) {
     let kind = (shape.kind)(who);
     let bytes = end.saturating_sub(book.len() as u64 + 3 * 4 + 12 + 8);
-    let trades: Vec<_> = (0..(bytes / 13).max(2))
-        .map(|n| trade(kind, mixed(1_000 * who + n), shape.lots))
+    let mut trades: Vec<_> = (0..(bytes / 27).max(2))
+        .map(|n| Trade {
+            // A trade every three or four hours: by the clock most customers have a night after a day.
+            minute: 8_000 * who + 217 * n + mixed(n) % 60,
+            ..trade(kind, mixed(1_000 * who + n), shape.lots)
+        })
         .collect();
-    let opened: u64 = trades.iter().map(|trade| trade.2).sum();
+    put_in_order(shape.order, &mut trades, who);
+    let opened: u64 = trades.iter().map(|trade| trade.lots).sum();
     // Some of the oldest lots are closed again, a different number for each.
     let held = opened - mixed(who) % opened.min(9);
     put_customer(book, &code(who), position(kind, held, who), &trades);
 }
 
-/// A trade that leaves no doubt of the customer's kind.
+/// A trade that leaves no doubt of the customer's kind, in the first minute.
 fn trade(kind: Kind, n: u64, lots: u64) -> Trade {
     let (side, price) = match kind {
         Kind::Pending | Kind::LargePending | Kind::Flat => (b'B', 43_300 + n % 2_000),
@@ -229,7 +384,12 @@ fn trade(kind: Kind, n: u64, lots: u64) -> Trade {
         Kind::LargePending => 100,
         _ => 1,
     };
-    (side, price, size * (5 + (n >> 20) % lots))
+    Trade {
+        side,
+        price,
+        lots: size * (5 + (n >> 20) % lots),
+        minute: 0,
+    }
 }
 
 /// K, H and Q.
@@ -277,13 +437,24 @@ fn put_customer(book: &mut Vec<u8>, code: &str, held: [u64; 3], trades: &[Trade]
     put(book, b'K', &held[0].to_string());
     put(book, b'H', &held[1].to_string());
     put(book, b'Q', &held[2].to_string());
-    for (side, price, lots) in trades {
-        put(
-            book,
-            *side,
-            &format!("{}.{:02} {lots}", price / 100, price % 100),
-        );
+    for trade in trades {
+        let (yuan, fen) = (trade.price / 100, trade.price % 100);
+        let (day, time) = stamp(trade.minute);
+        let value = format!("{yuan}.{fen:02} {} {day:08} {time:04}", trade.lots);
+        put(book, trade.side, &value);
     }
+}
+
+/// The trading day and the time of a minute counted from the first minute, 19:50, of 2010-01-01 on. Months have 28 days here,
+/// and years 336, so that all of them are days of the calendar.
+fn stamp(minute: u64) -> (u64, u64) {
+    let (days, since) = (minute / 1_440, minute % 1_440);
+    let (year, month, day) = (2010 + days / 336, 1 + days / 28 % 12, 1 + days % 28);
+    let clock = (19 * 60 + 50 + since) % 1_440;
+    (
+        10_000 * year + 100 * month + day,
+        100 * (clock / 60) + clock % 60,
+    )
 }
 
 fn closed(mut book: Vec<u8>) -> Vec<u8> {
