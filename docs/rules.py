@@ -35,7 +35,8 @@ def hexed(heading):
 
 
 GOLD, END = terms(), field("Z")
-LACKING = customer("A", "5", "0", "0", ("B", "400.00 4"))
+STAMP = " 20250115 1000"
+LACKING = customer("A", "5", "0", "0", ("B", "400.00 4" + STAMP))
 CROWD = [customer(str(1000 + i)) for i in range(256)]
 
 REFUSED = [
@@ -47,7 +48,7 @@ REFUSED = [
     GOLD + b"X\0\1",
     GOLD + b"X\0\0",
     GOLD + field("V", "4.000"),
-    GOLD + field("B", "400.00 1"),
+    GOLD + field("B", "400.00 1" + STAMP),
     GOLD + field("C", "A") + field("H", "0"),
     GOLD + customer("A")[:-4] + END,
     GOLD + END + b"a",
@@ -57,6 +58,9 @@ REFUSED = [
     GOLD + field("C", "A" * 44) + END,
     terms(u="4.000") + END,
     terms(u="4.000", v="4.0") + END,
+    GOLD + customer("A", "0", "0", "0", ("B", "400.00 1")) + END,
+    GOLD + customer("A", "0", "0", "0", ("B", "400.00 1 20250431 1000")) + END,
+    GOLD + customer("A", "0", "0", "0", ("B", "400.00 1 20250431 10,0")) + END,
     GOLD + customer("A") + customer("B") + customer("A") + END,
     GOLD + customer("A", "5", "9", "6") + END,
     GOLD + LACKING + END,
@@ -75,7 +79,7 @@ REFUSED = [
 
 def figures():
     """Good and bad figures: a book for each, and what it must come to."""
-    places = {"price": 4, "rate": 13, "lots": 41}
+    places = {"price": 4, "rate": 13, "lots": 41, "day": 53, "time": 53}
     table = re.search(r"^\| \| Good .*?\n\n", PAGE, re.M | re.S).group(0).strip().split("\n")[2:]
     for line in table:
         kind, good, bad = [cell.strip() for cell in line.strip("|").split("|")]
@@ -83,12 +87,14 @@ def figures():
             "price": lambda v: terms(s=v) + END,
             "rate": lambda v: terms(l=v) + END,
             "lots": lambda v: GOLD + customer("A", v, v, "0") + END,
+            "day": lambda v: GOLD + customer("A", "0", "0", "0", ("B", f"400.00 1 {v} 1000")) + END,
+            "time": lambda v: GOLD + customer("A", "0", "0", "0", ("A", f"400.00 1 20250115 {v}")) + END,
         }[kind]
         for v in re.findall(r"`([^`]*)`", good):
-            yield make(v), "total 0\nleft 0\n" + ("A N 0\n" if kind == "lots" else "")
+            yield make(v), "total 0\nleft 0\n" + ("A N 0\n" if places[kind] > 37 else "")
         for v in re.findall(r"`([^`]*)`", bad):
             yield make(v), f"refused {4 if ',' in v else 5} at {places[kind]}\n"
-    for v in "400.00  1", "400.00 1 ", "400.00", "400.00 0":
+    for v in "400.00  1" + STAMP, f"400.00 1{STAMP} ", "400.00 1 20250115", "400.00 1", "400.00 0" + STAMP:
         assert f"`{v}`" in PAGE, v
         yield GOLD + customer("A", "0", "0", "0", ("B", v)) + END, "refused 5 at 53\n"
 
@@ -101,12 +107,22 @@ def standings():
         gain = (40000 - fen if long else fen - 40000) * 10
         assert (total, times) == (f"{gain:,}", f"{gain * 100000:,}"), (price, gain)
         q = "0" if not long or "Q 0" in position else "10"
-        trade = ("B" if long else "A", f"{price} 10")
+        trade = ("B" if long else "A", f"{price} 10{STAMP}")
         group = customer("A", "10" if long else "0", "0" if long else "10", q, trade)
         left = 10 if standing[0] == "P" else 0
         yield GOLD + group + END, f"total 0\nleft {left}\nA {standing[0]} 0\n"
-    back = customer("A", "17", "2", "15", ("B", "450.00 10"), ("A", "300.00 2"), ("B", "420.00 10"))
-    yield GOLD + back + END, "total 0\nleft 0\nA N 0\n"
+    worked = re.search(r"^Worked, S 400.00, K 17, H 2, (.*?): the net", PAGE, re.M | re.S).group(1)
+    trades = re.findall(r"([BA])\s`(.*?)`", worked)
+    assert len(trades) == 3, trades
+    yield GOLD + customer("A", "17", "2", "15", *trades) + END, "total 0\nleft 0\nA N 0\n"
+
+
+def orders():
+    """Section 8: 10 lots by two trades, of which the newer has a loss; in either order in the book, unless the stamps are equal."""
+    for older, newer, _ in rows("8. Position and total gain"):
+        trades = [("B", f"400.00 10 {older.strip('`')}"), ("B", f"440.00 10 {newer.strip('`')}")]
+        for order in [trades] if older == newer else [trades, trades[::-1]]:
+            yield GOLD + customer("A", "10", "0", "10", *order) + END, "total 0\nleft 10\nA P 0\n"
 
 
 def divisions():
@@ -115,15 +131,15 @@ def divisions():
         line = " ".join(line.split())
         x, members, shares = re.match(r"(\d+) over (.*?): .*[:.] (\w+ \d+(?:, \w+ \d+)*)\.$", line).groups()
         weights = [(c, int(w.replace(",", ""))) for c, w in re.findall(r"\b([A-Z]\w*) (\d[\d,]*\d|\d)", members)]
-        offers = b"".join(customer(c, "0", str(w), "0", ("A", f"440.00 {w}")) for c, w in weights)
-        book = GOLD + customer("ZZ", x, "0", x, ("B", f"440.00 {x}")) + offers + END
+        offers = b"".join(customer(c, "0", str(w), "0", ("A", f"440.00 {w}{STAMP}")) for c, w in weights)
+        book = GOLD + customer("ZZ", x, "0", x, ("B", f"440.00 {x}{STAMP}")) + offers + END
         lots = dict(share.split() for share in shares.split(", "))
         yield book, f"total {x}\nleft 0\nZZ P {x}\n" + "".join(f"{c} 1 {lots[c]}\n" for c, w in weights)
 
 
 def whole_book():
     """The book byte by byte: its places, and its listing in section 14. The report's places and length too."""
-    for heading, length in ("A book byte by byte", 96), ("12. The report", 34):
+    for heading, length in ("A book byte by byte", 124), ("12. The report", 34):
         at = 0
         for place, part in hexed(heading):
             assert place == at and len(part) == 3 + part[1] * 256 + part[2], (heading, place)
@@ -142,7 +158,7 @@ def refusals():
 
 
 passed = failed = 0
-for part in refusals, figures, standings, divisions, whole_book:
+for part in refusals, figures, orders, standings, divisions, whole_book:
     for book, wanted in part():
         run = subprocess.run(sys.argv[1:], input=book, capture_output=True)
         # status 1 is the program's for a refused book, and 0 the second program's
