@@ -24,7 +24,7 @@ abbrev pub member : String → ℕ → Member
 member c w = record { code = c; weight = w }
 
 -- A case has a name, what is put in, and what must come out: what is printed of a book; the number, the place and the report
--- of a call with so much room; the loss in fen of a book's only customer; the lots of a division.
+-- of a call with so much room; the loss of a book's only customer, in the unit of its prices; the lots of a division.
 pub data Case : Type 0 where
   Prints : String → List ℕ → String → Case
   Answers : String → List ℕ → ℕ → ℕ → ℕ → List ℕ → Case

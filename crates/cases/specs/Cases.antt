@@ -46,5 +46,5 @@ cases =
     ∷ divides "8: 5 over 3, 3, 3" 5 (member "A" 3 ∷ member "B" 3 ∷ member "C" 3 ∷ []) (2 ∷ 2 ∷ 1 ∷ [])
     ∷ divides "9: 1 over 1,000,000 and 1" 1 (member "A" 1_000_000 ∷ member "B" 1 ∷ []) (1 ∷ 0 ∷ [])
     ∷ prints "10: the listing" (theListing "8.000") "total 9\nleft 1\nW3 3 1\nP2 P 3\nW1 1 3\nP1 P 6\nW2 2 5\n"
-    ∷ prints "10: L written 8,000" (theListing "8,000") "refused 4 at 13\n"
+    ∷ prints "10: L written 8,000" (theListing "8,000") "refused 4 at 17\n"
     ∷ []

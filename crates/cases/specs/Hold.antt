@@ -1,6 +1,6 @@
 -- The tables hold, all of their cases, by computation; HoldCrowded has the one of crowded books.
 -- Assumes nothing.
-use Rattle.rules.specs.Figures.{figureOf}
+use Rattle.rules.specs.Figures.{writtenOf, figureOf}
 use Rattle.rules.specs.Stamp.{stampOf}
 use Rattle.rules.specs.Opening.{openingOf}
 use Rattle.rules.specs.Codes.{isCode}
@@ -18,36 +18,48 @@ use Rattle.cases.specs.Forms.{forms}
 use Rattle.cases.specs.Order.{order}
 use Rattle.cases.specs.Outcomes.{outcomes}
 use Rattle.cases.specs.Nights.{nights}
+use Rattle.cases.specs.Silver.{silver}
 
 -- "The marked cases are proved together as a table under a single statement about the definitions"
 pub marked-cases : AllHold cases
-unfolding cases figureOf openingOf stampOf isCode fieldsOf within step judge gainFrom totalGain standing leftOver rank shareOf share lineOf quantity after cascade outcome digits listing
+unfolding cases writtenOf figureOf openingOf stampOf isCode fieldsOf within step judge gainFrom totalGain standing leftOver rank shareOf share lineOf quantity after cascade outcome digits listing
 marked-cases = so & so & so & so & so & so & so & so & so & so & so & so & so & so & so & so & so & done
 
 pub refusals-hold : AllHold refusals
-unfolding refusals figureOf openingOf stampOf isCode fieldsOf within step judge gainFrom totalGain standing leftOver rank shareOf share lineOf quantity after cascade outcome digits reported report answer
+unfolding refusals writtenOf figureOf openingOf stampOf isCode fieldsOf within step judge gainFrom totalGain standing leftOver rank shareOf share lineOf quantity after cascade outcome digits reported report answer
 refusals-hold =
     so & so & so & so & so & so & so & so & so & so & so & so & so & so & so & so & so & so & so & so
     & so & so & so & so & so & so & so & so & so & so & so & so & so & so & so & so & so & so & so & so
     & so & so & so & so & so & so & so & so & so & so & done
 
 pub forms-hold : AllHold forms
-unfolding forms figureOf openingOf stampOf isCode fieldsOf within step judge gainFrom totalGain standing leftOver rank shareOf share lineOf quantity after cascade outcome digits reported report answer
+unfolding forms writtenOf figureOf openingOf stampOf isCode fieldsOf within step judge gainFrom totalGain standing leftOver rank shareOf share lineOf quantity after cascade outcome digits reported report answer
 forms-hold =
     so & so & so & so & so & so & so & so & so & so & so & so & so & so & so & so & so & so & so & so
     & so & so & so & so & so & so & so & so & so & done
 
 pub order-holds : AllHold order
-unfolding order figureOf openingOf stampOf isCode fieldsOf within step judge answer
+unfolding order writtenOf figureOf openingOf stampOf isCode fieldsOf within step judge answer
 order-holds = so & so & so & so & so & so & so & so & so & so & so & so & so & so & so & so & so & done
 
 pub outcomes-hold : AllHold outcomes
-unfolding outcomes figureOf openingOf stampOf isCode fieldsOf within step judge gainFrom totalGain standing leftOver rank shareOf share lineOf quantity after cascade outcome digits reported report listing answer
+unfolding outcomes writtenOf figureOf openingOf stampOf isCode fieldsOf within step judge gainFrom totalGain standing leftOver rank shareOf share lineOf quantity after cascade outcome digits reported report listing answer
 outcomes-hold = so & so & so & so & so & so & so & so & so & so & so & so & so & so & so & so & so & done
 
 pub nights-hold : AllHold nights
-unfolding nights figureOf openingOf stampOf isCode fieldsOf within step judge gainFrom totalGain standing leftOver rank shareOf share lineOf quantity after cascade outcome digits listing answer
+unfolding nights writtenOf figureOf openingOf stampOf isCode fieldsOf within step judge gainFrom totalGain standing leftOver rank shareOf share lineOf quantity after cascade outcome digits listing answer
 nights-hold =
     so & so & so & so & so & so & so & so & so & so & so & so & so & so & so & so & so & so & so & so
     & so & so & so & so & so & so & so & so & so & so & so & so & so & so & so & so & so & so & so & so
     & so & so & so & so & so & so & so & so & so & so & so & so & done
+
+pub silver-holds : AllHold silver
+unfolding silver writtenOf figureOf openingOf stampOf isCode fieldsOf within step judge gainFrom totalGain standing leftOver rank shareOf share lineOf quantity after cascade outcome digits reported report listing answer
+silver-holds =
+    so & so & so & so & so & so & so & so & so & so & so & so & so & so & so & so & so & so & so & so
+    & so & so & so & so & so & so & so & so & so & so & so & so & so & so & so & so & so & so & so & so
+    & so & so & so & so & so & so & so & so & so & so & so & so & so & so & so & so & so & so & so & so
+    & so & so & so & so & so & so & so & so & so & so & so & so & so & so & so & so & so & so & so & so
+    & so & so & so & so & so & so & so & so & so & so & so & so & so & so & so & so & so & so & so & so
+    & so & so & so & so & so & so & so & so & so & so & so & so & so & so & so & so & so & so & so & so
+    & so & so & done

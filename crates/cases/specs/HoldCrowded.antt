@@ -12,7 +12,7 @@ use Rattle.rules.specs.declared.Terms.{Terms}
 use Rattle.rules.specs.Text.{bytes}
 use Rattle.rules.specs.Refusal as refusal
 use Rattle.rules.specs.Limits.{longestBook}
-use Rattle.rules.specs.Figures.{fen, rate, figureOf}
+use Rattle.rules.specs.Figures.{fen, rate, writtenOf, figureOf}
 use Rattle.rules.specs.Stamp.{stampOf}
 use Rattle.rules.specs.Opening.{openingOf}
 use Rattle.rules.specs.Codes.{isCode}
@@ -25,7 +25,7 @@ use Rattle.cases.specs.Refusals.{idle, lacking}
 use Rattle.cases.specs.Crowded.{nth, crowd, the256th, crowded}
 
 abbrev goldTerms : Terms
-goldTerms = record { down = true; settlement = fen 40_000; loss = rate 8_000; edge1 = rate 8_000; edge2 = rate 4_000 }
+goldTerms = record { down = true; decimals = 2; settlement = fen 40_000; loss = rate 8_000; edge1 = rate 8_000; edge2 = rate 4_000 }
 
 abbrev readBefore : List Customer → ℕ → List Customer
 readBefore rest zero = rest
@@ -47,7 +47,7 @@ beyond zero most = most
 beyond (suc n) most = suc (beyond n most)
 
 walked : (rest : List ℕ) (most : ℕ) → walk start 0 0 (fieldsIn (beyond many most) (crowd 255 ++ rest)) ≡ walk here (length (crowd 254)) (length (crowd 255)) (fieldsIn most rest)
-unfolding figureOf openingOf stampOf isCode fieldsOf within step crowd here many
+unfolding writtenOf figureOf openingOf stampOf isCode fieldsOf within step crowd here many
 walked rest most = refl
 
 judged : (s : List ℕ) (most : ℕ) → ltb longestBook (length s) ≡ false → length s ≡ most → judge s ≡ walk start 0 0 (fieldsIn most s)
@@ -73,23 +73,23 @@ holding n rest number place e =
     subst (Holds n) (sym (e .verdict) ∙ ap (upheld number place) (sym goes)) so
 
 passes : Ends ((the256th ++ end) ++ (0 ∷ [])) 3 (length (crowd 255 ++ (the256th ++ end)))
-unfolding figureOf openingOf stampOf isCode fieldsOf within step crowd here many
+unfolding writtenOf figureOf openingOf stampOf isCode fieldsOf within step crowd here many
 passes = record { short = refl; enough = refl; verdict = refl }
 
 no-code : Ends (the256th ++ begins []) 10 (length (crowd 255 ++ the256th))
-unfolding figureOf openingOf stampOf isCode fieldsOf within step crowd here many
+unfolding writtenOf figureOf openingOf stampOf isCode fieldsOf within step crowd here many
 no-code = record { short = refl; enough = refl; verdict = refl }
 
 known : Ends (the256th ++ begins (nth 0)) 10 (length (crowd 255 ++ the256th))
-unfolding figureOf openingOf stampOf isCode fieldsOf within step crowd here many
+unfolding writtenOf figureOf openingOf stampOf isCode fieldsOf within step crowd here many
 known = record { short = refl; enough = refl; verdict = refl }
 
 cut : Ends (the256th ++ take 3 (begins (bytes "A"))) 2 (length (crowd 255 ++ the256th))
-unfolding figureOf openingOf stampOf isCode fieldsOf within step crowd here many
+unfolding writtenOf figureOf openingOf stampOf isCode fieldsOf within step crowd here many
 cut = record { short = refl; enough = refl; verdict = refl }
 
 lacks : Ends ([] ++ (lacking ++ idle "B" ++ end)) 9 (length (crowd 255 ++ []))
-unfolding figureOf openingOf stampOf isCode fieldsOf within step crowd here many
+unfolding writtenOf figureOf openingOf stampOf isCode fieldsOf within step crowd here many
 lacks = record { short = refl; enough = refl; verdict = refl }
 
 pub crowded-hold : AllHold crowded

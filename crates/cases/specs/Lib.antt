@@ -8,6 +8,7 @@ pub mod Forms
 pub mod Order
 pub mod Outcomes
 pub mod Nights
+pub mod Silver
 pub mod Crowded
 pub mod Hold
 pub mod HoldCrowded

@@ -59,7 +59,7 @@ refusals =
     ∷ refusedAfter "2: an empty book" [] [] 2
     ∷ refusedAfter "2: two bytes of a field" beforeS (take 2 (term "S" "400.00")) 2
     ∷ refusedAfter "2: the value of V is cut" beforeV (take 7 (term "V" "4.000")) 2
-    ∷ refuses "2: no Z after gold's terms, which are 37 bytes" gold 2 37
+    ∷ refuses "2: no Z after gold's terms, which are 41 bytes" gold 2 41
     ∷ refusedAfter "2: no H after K" (beforeH "0") [] 2
     ∷ refusedAfter "3: S where D is due" [] (drop (length beforeS) (book gold [])) 3
     ∷ refusedAfter "3: L before S" beforeS (term "L" "8.000" ++ term "S" "400.00" ++ drop (length beforeU) (book gold [])) 3

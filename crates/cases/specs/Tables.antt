@@ -8,20 +8,33 @@ use mathlib.Core.List.{List, [], _++_}
 use Rattle.rules.specs.Text.{bytes}
 use Rattle.rules.specs.Report.{field, joined}
 
--- D, and what stands before S
+-- D, and what stands before X
 abbrev pub lock : String → List ℕ
 lock d = field "D" (bytes d)
 
--- one of S, L, U, V
+-- one of X, S, L, U, V
 abbrev pub term : Char → String → List ℕ
 term tag v = field tag (bytes v)
 
+-- D and X, and what stands before S
+abbrev pub front : String → String → List ℕ
+front d x = lock d ++ term "X" x
+
+-- L, U, V
+abbrev pub edges : String → String → String → List ℕ
+edges l u v = term "L" l ++ term "U" u ++ term "V" v
+
+-- the terms of a book whose prices have as many decimals as its X says
+abbrev pub termsWith : String → String → String → String → String → String → List ℕ
+termsWith d x s l u v = front d x ++ term "S" s ++ edges l u v
+
+-- "Document 01's listing takes 2", and so do its other cases
 abbrev pub terms : String → String → String → String → String → List ℕ
-terms d s l u v = lock d ++ term "S" s ++ term "L" l ++ term "U" u ++ term "V" v
+terms d s l u v = termsWith d "2" s l u v
 
 -- "S 400.00, gold edges, locked down": what stands before each of the terms, and all of them
 abbrev pub beforeS : List ℕ
-beforeS = lock "D"
+beforeS = front "D" "2"
 
 abbrev pub beforeL : List ℕ
 beforeL = beforeS ++ term "S" "400.00"

@@ -80,15 +80,19 @@ module _ {A : Type 0} where
   figure Comma next = Stop refusal.comma
   figure Malformed next = Stop refusal.malformed
 
-  -- 4 and 5 for a trade
-  abbrev pub trade : Opening → (Trade → Step A) → Step A
-  trade (Made t) next = next t
-  trade CommaIn next = Stop refusal.comma
-  trade NoTrade next = Stop refusal.malformed
+  -- 4 and 5 for a trade, whose price has as many decimals as X says
+  abbrev pub trade : ℕ → Opening → (Trade → Step A) → Step A
+  trade x (Made t d) next = refuse refusal.malformed (not (eqb d x)) (next t)
+  trade x CommaIn next = Stop refusal.comma
+  trade x NoTrade next = Stop refusal.malformed
 
   -- "D: one byte: D locked at the lower limit, U locked at the upper"
   abbrev pub lock : List ℕ → (Bool → Step A) → Step A
   lock v next = cond (same v (bytes "D")) (next true) (cond (same v (bytes "U")) (next false) (Stop refusal.malformed))
+
+  -- "X, one byte 0 or 2, says how many decimals every price in the book has"
+  abbrev pub places : List ℕ → (ℕ → Step A) → Step A
+  places v next = cond (same v (bytes "0")) (next 0) (cond (same v (bytes "2")) (next 2) (Stop refusal.malformed))
 
 -- "Customers: C, K, H, Q, then opening trades, each B or A": which of a customer's fields is due
 pub data Part : Type 0 where
@@ -128,7 +132,7 @@ within terms (Open DueQ c) t v =
     must (is "Q" t) (figure (figureOf heldForm v) λ q.
     let p : Position = record { long = c .position .long; short = c .position .short; unfilled = lots q } in
     refuse refusal.overdrawn (overdrawn terms p) (Next (Open DueTrade (held c p))))
-within terms (Open DueTrade c) t v = must (is "B" t || is "A" t) (trade (openingOf (is "B" t) v) λ x. Next (Open DueTrade (traded c x)))
+within terms (Open DueTrade c) t v = must (is "B" t || is "A" t) (trade (terms .decimals) (openingOf (is "B" t) v) λ x. Next (Open DueTrade (traded c x)))
 
 -- a group may end once its Q is read
 abbrev pub mayEnd : Part → Bool
@@ -137,9 +141,10 @@ mayEnd DueH = false
 mayEnd DueQ = false
 mayEnd DueTrade = true
 
--- "Terms, each once: D, S, L, U, V": which of them is due
+-- "Terms, each once: D, S, L, U, V", and "X after D": which of them is due
 pub data Term : Type 0 where
   DueD : Term
+  DueX : Term
   DueS : Term
   DueL : Term
   DueU : Term
@@ -152,7 +157,7 @@ pub data Due : Type 0 where
 
 -- no term is read yet
 abbrev pub noTerms : Terms
-noTerms = record { down = false; settlement = fen 0; loss = rate 0; edge1 = rate 0; edge2 = rate 0 }
+noTerms = record { down = false; decimals = 0; settlement = fen 0; loss = rate 0; edge1 = rate 0; edge2 = rate 0 }
 
 abbrev pub atFront : Due
 atFront = AtTerm DueD noTerms
@@ -184,24 +189,28 @@ goesOn terms cs (Next g) = Next (Reading (InGroup terms cs g))
 
 -- the terms with one more
 abbrev pub locked : Terms → Bool → Terms
-locked ts d = record { down = d; settlement = ts .settlement; loss = ts .loss; edge1 = ts .edge1; edge2 = ts .edge2 }
+locked ts d = record { down = d; decimals = ts .decimals; settlement = ts .settlement; loss = ts .loss; edge1 = ts .edge1; edge2 = ts .edge2 }
+
+abbrev pub withDecimals : Terms → ℕ → Terms
+withDecimals ts x = record { down = ts .down; decimals = x; settlement = ts .settlement; loss = ts .loss; edge1 = ts .edge1; edge2 = ts .edge2 }
 
 abbrev pub settled : Terms → ℕ → Terms
-settled ts s = record { down = ts .down; settlement = fen s; loss = ts .loss; edge1 = ts .edge1; edge2 = ts .edge2 }
+settled ts s = record { down = ts .down; decimals = ts .decimals; settlement = fen s; loss = ts .loss; edge1 = ts .edge1; edge2 = ts .edge2 }
 
 abbrev pub withLoss : Terms → ℕ → Terms
-withLoss ts l = record { down = ts .down; settlement = ts .settlement; loss = rate l; edge1 = ts .edge1; edge2 = ts .edge2 }
+withLoss ts l = record { down = ts .down; decimals = ts .decimals; settlement = ts .settlement; loss = rate l; edge1 = ts .edge1; edge2 = ts .edge2 }
 
 abbrev pub withEdge1 : Terms → ℕ → Terms
-withEdge1 ts u = record { down = ts .down; settlement = ts .settlement; loss = ts .loss; edge1 = rate u; edge2 = ts .edge2 }
+withEdge1 ts u = record { down = ts .down; decimals = ts .decimals; settlement = ts .settlement; loss = ts .loss; edge1 = rate u; edge2 = ts .edge2 }
 
 abbrev pub withEdge2 : Terms → ℕ → Terms
-withEdge2 ts v = record { down = ts .down; settlement = ts .settlement; loss = ts .loss; edge1 = ts .edge1; edge2 = rate v }
+withEdge2 ts v = record { down = ts .down; decimals = ts .decimals; settlement = ts .settlement; loss = ts .loss; edge1 = ts .edge1; edge2 = rate v }
 
 -- "For one field: 2, 3, then (at C or Z after a customer) 9 for that customer, then 10, 4, 5, then 6 at V, 7 at C, 8 at Q."
 unfoldable pub step : Due → ℕ → List ℕ → Step Stage
-step (AtTerm DueD ts) t v = must (is "D" t) (lock v λ d. Next (Reading (AtTerm DueS (locked ts d))))
-step (AtTerm DueS ts) t v = must (is "S" t) (figure (figureOf priceForm v) λ s. Next (Reading (AtTerm DueL (settled ts s))))
+step (AtTerm DueD ts) t v = must (is "D" t) (lock v λ d. Next (Reading (AtTerm DueX (locked ts d))))
+step (AtTerm DueX ts) t v = must (is "X" t) (places v λ x. Next (Reading (AtTerm DueS (withDecimals ts x))))
+step (AtTerm DueS ts) t v = must (is "S" t) (figure (figureOf (priceForm (ts .decimals)) v) λ s. Next (Reading (AtTerm DueL (settled ts s))))
 step (AtTerm DueL ts) t v = must (is "L" t) (figure (figureOf rateForm v) λ l. Next (Reading (AtTerm DueU (withLoss ts l))))
 step (AtTerm DueU ts) t v = must (is "U" t) (figure (figureOf rateForm v) λ u. Next (Reading (AtTerm DueV (withEdge1 ts u))))
 -- 6: "U is not greater than V"

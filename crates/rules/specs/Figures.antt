@@ -1,15 +1,19 @@
 -- docs/RULES.md, section 4. Document 01, "The book, field by field": what a figure is.
 -- Assumes nothing.
-use Prim.Native.Nat.{ℕ, zero, suc, _+_, _-_, _*_}
+use Prim.Native.Nat.{ℕ, _+_, _-_, _*_}
 use Prim.Native.Char.{Char, code}
 use mathlib.Core.List.{List, [], _∷_, _++_}
 use mathlib.Core.Bool.{Bool, true, false, cond, not, _&&_, _||_}
-use lib.ListN.{length, getD, take, drop}
+use lib.ListN.{length, getD}
 use lib.Dec.{leb, eqb}
 use Rattle.rules.specs.declared.Fen.{Fen}
 use Rattle.rules.specs.declared.Lots.{Lots}
 use Rattle.rules.specs.declared.Rate.{Rate}
 use Rattle.rules.specs.declared.Form.{Form}
+use Rattle.rules.specs.declared.Written.{Written}
+use Rattle.rules.specs.declared.Written.the-variants.{Number}
+use Rattle.rules.specs.declared.Written.the-variants.{Comma as CommaIn}
+use Rattle.rules.specs.declared.Written.the-variants.{Malformed as NoFigure}
 use Rattle.rules.specs.declared.Figure.{Figure}
 use Rattle.rules.specs.declared.Figure.the-variants.{Value, Comma, Malformed}
 use Rattle.rules.specs.Text.{is}
@@ -24,21 +28,22 @@ lots n = record { 0 = n }
 abbrev pub rate : ℕ → Rate
 rate n = record { 0 = n }
 
--- "price: 1 to 5 digits, a point, exactly 2 digits; 0.01 to 99999.99"
-abbrev pub priceForm : Form
-priceForm = record { whole = 5; decimals = 2; least = 1; most = 9_999_999 }
+-- "price: 1 to 5 digits, a point, exactly 2 digits; 0.01 to 99999.99". Request [3]: "With X 0 a price is a whole figure from 1 to 9,999,999".
+-- How many digits stand before the point, the range says, since no figure has a leading zero
+abbrev pub priceForm : ℕ → Form
+priceForm x = record { decimals = x; least = 1; most = 9_999_999 }
 
 -- "rate: 1 or 2 digits, a point, exactly 3 digits; 0.001 to 99.999"
 abbrev pub rateForm : Form
-rateForm = record { whole = 2; decimals = 3; least = 1; most = 99_999 }
+rateForm = record { decimals = 3; least = 1; most = 99_999 }
 
 -- "lots: 1 to 7 digits; 0 to 1,000,000 in K, H, Q"
 abbrev pub heldForm : Form
-heldForm = record { whole = 7; decimals = 0; least = 0; most = 1_000_000 }
+heldForm = record { decimals = 0; least = 0; most = 1_000_000 }
 
 -- "1 to 1,000,000 in a trade"
 abbrev pub tradedForm : Form
-tradedForm = record { whole = 7; decimals = 0; least = 1; most = 1_000_000 }
+tradedForm = record { decimals = 0; least = 1; most = 1_000_000 }
 
 abbrev pub isDigit : ℕ → Bool
 isDigit x = leb (code "0") x && leb x (code "9")
@@ -60,35 +65,45 @@ has c (x ∷ xs) = is c x || has c xs
 abbrev pub plain : List ℕ → Bool
 plain ds = allDigits ds && (not (is "0" (getD ds 0 0)) || eqb (length ds) 1)
 
--- "a point, exactly 2 digits": what follows the part before the point, and nothing where there are no decimals
-abbrev pub pointed : ℕ → List ℕ → Bool
-pointed zero rest = eqb (length rest) 0
-pointed (suc d) [] = false
-pointed (suc d) (x ∷ xs) = is "." x && eqb (length xs) (suc d) && allDigits xs
+-- the bytes up to the first of its kind, and those after it
+abbrev pub upTo : Char → List ℕ → List ℕ
+upTo c [] = []
+upTo c (x ∷ xs) = cond (is c x) [] (x ∷ upTo c xs)
 
--- how many bytes that is
-abbrev pub tail : ℕ → ℕ
-tail zero = 0
-tail (suc d) = suc (suc d)
+abbrev pub after : Char → List ℕ → List ℕ
+after c [] = []
+after c (x ∷ xs) = cond (is c x) xs (after c xs)
 
--- how many bytes stand before the point
-abbrev pub before : Form → List ℕ → ℕ
-before form v = length v - tail (form .decimals)
+-- the part before a point, and the digits after it
+abbrev pub whole : List ℕ → List ℕ
+whole v = upTo "." v
 
--- "1 to 5 digits, a point, exactly 2 digits"
-abbrev pub formed : Form → List ℕ → Bool
-formed form v =
-    let n = before form v in
-    leb 1 n && leb n (form .whole) && plain (take n v) && pointed (form .decimals) (drop n v)
+abbrev pub behindPoint : List ℕ → List ℕ
+behindPoint v = after "." v
 
 -- all its digits as one number: 400.00 is 40000
-abbrev pub number : Form → List ℕ → ℕ
-number form v = numberAfter 0 (take (before form v) v ++ drop (before form v + 1) v)
+abbrev pub number : List ℕ → ℕ
+number v = numberAfter 0 (whole v ++ behindPoint v)
+
+-- digits, and where there is a point digits after it; no form has more than 7
+abbrev pub isWritten : List ℕ → Bool
+isWritten v =
+    leb 1 (length (whole v)) && plain (whole v) && (not (has "." v) || leb 1 (length (behindPoint v))) && allDigits (behindPoint v)
+    && leb (length (whole v) + length (behindPoint v)) 7
+
+-- Request [3]: "Reading a figure must now answer with the value and the number of decimals written, or say why it is no figure."
+unfoldable pub writtenOf : List ℕ → Written
+writtenOf v = cond (has "," v) CommaIn (cond (isWritten v) (Number (number v) (length (behindPoint v))) NoFigure)
 
 abbrev pub inRange : Form → ℕ → Bool
 inRange form n = leb (form .least) n && leb n (form .most)
 
+-- who asks says what it may have
+abbrev pub asked : Form → Written → Figure
+asked form (Number n d) = cond (eqb d (form .decimals) && inRange form n) (Value n) Malformed
+asked form CommaIn = Comma
+asked form NoFigure = Malformed
+
 -- "4: a comma (0x2C) stands in S, L, U, V, K, H, Q, B or A", and "5: a value is otherwise not of its form or range"
 unfoldable pub figureOf : Form → List ℕ → Figure
-figureOf form v =
-    cond (has "," v) Comma (cond (formed form v && inRange form (number form v)) (Value (number form v)) Malformed)
+figureOf form v = asked form (writtenOf v)

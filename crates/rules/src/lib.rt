@@ -7,7 +7,7 @@ ghost use mathlib.Core.Path.{_≡_};
 ghost use Prim.Native.Nat.{min};
 
 // A price. "Prices are in fen, positions in lots and rates in thousandths of a percent": three types, so that an edge
-// cannot be handed in as a price.
+// cannot be handed in as a price. With X 0 all prices of the book are in yuan.
 pub struct Fen(pub u64);
 
 pub struct Lots(pub u64);
@@ -17,25 +17,32 @@ pub struct Rate(pub u64);
 // When a trade was made: a number that orders trading days, and within one day its minutes.
 pub struct Stamp(pub u64);
 
-// What a figure says. The number is in the figure's own unit: fen, lots or thousandths of a percent.
+// What a figure says, whoever asks: all its digits as one number, and how many of them stand behind a point; or why it is no figure.
+pub enum Written {
+    Number { number: u64, decimals: usize },
+    Comma,
+    Malformed,
+}
+
+// What it says to who asks. The number is in the figure's own unit: fen or yuan, lots or thousandths of a percent.
 pub enum Figure {
     Value(u64),
     Comma,
     Malformed,
 }
 
-// The form of a figure: at most `whole` digits, then a point and exactly `decimals` digits, or nothing where that is 0;
-// the number from `least` to `most`.
+// What who asks allows: so many decimals, and the number from `least` to `most`.
 pub struct Form {
-    pub whole: usize,
     pub decimals: usize,
     pub least: u64,
     pub most: u64,
 }
 
-// The terms D, S, L, U, V: locked at the lower limit, the settlement price, the loss edge, the lower edges of T1 and T2.
+// The terms D, X, S, L, U, V: locked at the lower limit, the decimals of every price, the settlement price, the loss edge, the lower edges
+// of T1 and T2.
 pub struct Terms {
     pub down: bool,
+    pub decimals: usize,
     pub settlement: Fen,
     pub loss: Rate,
     pub edge1: Rate,
@@ -57,9 +64,9 @@ pub struct Trade {
     pub stamp: Stamp,
 }
 
-// What the value of a B or an A says.
+// What the value of a B or an A says: a trade, and the decimals that its price is written with.
 pub enum Opening {
-    Made(Trade),
+    Made { trade: Trade, decimals: usize },
     Comma,
     Malformed,
 }

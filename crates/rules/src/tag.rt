@@ -1,6 +1,8 @@
 // The tags of a book's fields, then those of a report that a book has not, under the document's letters.
 pub const D: u8 = b'D';
 
+pub const X: u8 = b'X';
+
 pub const S: u8 = b'S';
 
 pub const L: u8 = b'L';
