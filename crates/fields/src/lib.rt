@@ -3,7 +3,6 @@ use rules::Figure;
 use rules::Form;
 use rules::refusal;
 ghost use mathlib.Core.Path.{_≡_};
-ghost use Prim.Native.Nat.{_+_, _≤_};
 ghost use lib.ListN.{drop};
 ghost use Rattle.rules.specs.Fields.{fieldsOf};
 ghost use Rattle.fields.specs.First.{firstAt};
@@ -69,7 +68,6 @@ fn no_figure(number: u64, place: usize) -> FigureAt
 
 // The figure of the field that is due at a place, with this tag.
 pub fn figure_at(book: &[u8], at: usize, tag: u8, form: Form) -> FigureAt
-    requires { ⌜ form .whole + form .decimals ≤ 9 ⌝ }
     ensures { λ r. ⌜ r ≡ figureFrom at tag form (fieldsOf (drop at (now (book .entry)))) ⌝ }
 {
     let Found::Field {

@@ -2,59 +2,108 @@
 -- Assumes nothing.
 use Prim.Native.Nat.{ℕ, _<_, _≤_}
 use Prim.Native.Char.{code}
-use mathlib.Core.Path.{_≡_, refl, ap, _∙_}
+use mathlib.Core.Path.{_≡_, refl, sym, ap, ap₂, _∙_}
+use mathlib.Core.Bool.{Bool, true, false, cond, and-eq-true-iff}
 use mathlib.Core.List.{List, _∷_}
 use native.Mathlib.Omega.{arith}
+use borrow.Author.Tests.{leb-true, le-leb}
+use lib.Dec.{leb}
 use lib.ListN.{length, length-append}
-use Rattle.rules.specs.Figures.{priceForm, tradedForm}
+use Rattle.rules.specs.declared.Written.{Written}
+use Rattle.rules.specs.declared.Written.the-variants.{Number, Comma, Malformed}
+use Rattle.rules.specs.declared.Figure.{Figure}
+use Rattle.rules.specs.declared.Figure.the-variants.{Value}
+use Rattle.rules.specs.declared.Figure.the-variants.{Comma as CommaIn}
+use Rattle.rules.specs.declared.Figure.the-variants.{Malformed as NoFigure}
+use Rattle.rules.specs.Figures.{priceForm, tradedForm, inRange, writtenOf, figureOf}
 use Rattle.rules.specs.Opening.{upToBlank, afterBlank}
-use Rattle.figures.specs.declared.number.Digits.{Digits}
-use Rattle.figures.specs.declared.number.Digits.the-variants.{Number, Other}
-use Rattle.figures.specs.declared.front.Front.the-variants.{Other as NoFront}
+use Rattle.laws.specs.Figures.{figure-read}
+use Rattle.figures.specs.declared.start.Start.the-variants.{Ends}
 use Rattle.figures.specs.declared.pair.Pair.the-variants.{Both}
 use Rattle.figures.specs.declared.pair.Pair.the-variants.{Other as NoPair}
-use Rattle.figures.specs.Numbers.{numberOf}
-use Rattle.figures.specs.Fronts.{frontOf}
-use Rattle.figures.specs.Pairs.{both, pairOf}
-use Rattle.figures.proofs.Formed.{number-formed, number-most}
-use Rattle.figures.proofs.Fronts.{front-missing}
+use Rattle.figures.specs.Starts.{startOf}
+use Rattle.figures.specs.Pairs.{withLots, both, pairOf}
 use Rattle.figures.proofs.Blanks.{blank-inside, blank-before}
+use Rattle.figures.proofs.Figures.{written-size, written-some, written-most, front-start}
 
--- two numbers have a blank between them
-between : (f : List ℕ) (n : ℕ) → numberOf tradedForm (afterBlank f) ≡ Number n → length (upToBlank f) < length f
-between f n e = blank-before f (omega (arith, number-formed tradedForm (afterBlank f) n e .least))
-
-two : (x y : Digits) (p n : ℕ) → both x y ≡ Both p n → (x ≡ Number p) × (y ≡ Number n)
-two (Number i) (Number j) p n h = (cc, cc)
-two (Number i) Other p n h = let z : _≡_ {A = ℕ} 0 1 = cc in absurd (omega arith)
-two Other y p n h = let z : _≡_ {A = ℕ} 0 1 = cc in absurd (omega arith)
-
-missing : (x y : Digits) → ((p n : ℕ) → x ≡ Number p → y ≡ Number n → ⊥) → both x y ≡ NoPair
-missing (Number p) (Number n) h = absurd (h p n refl refl)
-missing (Number p) Other h = refl
-missing Other y h = refl
-
-pub record PairRead (f : List ℕ) (p n : ℕ) : Type 0 where
+pub record PairRead (f : List ℕ) (p d n : ℕ) : Type 0 where
   pub inside : length (upToBlank f) < length f
-  pub price : numberOf priceForm (upToBlank f) ≡ Number p
-  pub lots : numberOf tradedForm (afterBlank f) ≡ Number n
+  pub price : writtenOf (upToBlank f) ≡ Number p d
+  pub range : inRange (priceForm d) p ≡ true
+  pub lots : figureOf tradedForm (afterBlank f) ≡ Value n
 
-pub pair-read : (f : List ℕ) (p n : ℕ) → pairOf f ≡ Both p n → PairRead f p n
-pair-read f p n h =
-    let t = two (numberOf priceForm (upToBlank f)) (numberOf tradedForm (afterBlank f)) p n h in
-    record { inside = between f n (t .1); price = t .0; lots = t .1 }
+-- what both sides say, by the definition
+record Sides (w : Written) (l : Figure) (p d n : ℕ) : Type 0 where
+  price : w ≡ Number p d
+  range : inRange (priceForm d) p ≡ true
+  lots : l ≡ Value n
+
+abbrev bad : {A : Type 0} → _≡_ {A = ℕ} 0 1 → A
+bad z = absurd (omega arith)
+
+two : (w : Written) (l : Figure) (p d n : ℕ) → both w l ≡ Both p d n → Sides w l p d n
+two (Number q x) l p d n h = go (inRange (priceForm x) q) refl l h
+  where
+    go : (b : Bool) → inRange (priceForm x) q ≡ b → (l : Figure) → cond b (withLots q x l) NoPair ≡ Both p d n → Sides (Number q x) l p d n
+    go true e (Value m) k =
+        let price : q ≡ p = cc in
+        let places : x ≡ d = cc in
+        record { price = cc; range = ap (λ (i : ℕ). inRange (priceForm d) i) (sym price) ∙ ap (λ (y : ℕ). inRange (priceForm y) q) (sym places) ∙ e; lots = cc }
+    go true e CommaIn k = bad (cc)
+    go true e NoFigure k = bad (cc)
+    go false e l k = bad (cc)
+two Comma l p d n h = bad (cc)
+two Malformed l p d n h = bad (cc)
+
+-- lots have a blank before them
+lots-some : (u : List ℕ) (n : ℕ) → figureOf tradedForm u ≡ Value n → (1 ≤ length u) × (length u ≤ 7)
+lots-some u n h =
+    let w = figure-read tradedForm u n h .written in
+    (written-some u n 0 w, written-size u n 0 w .1 refl)
+
+pub pair-read : (f : List ℕ) (p d n : ℕ) → pairOf f ≡ Both p d n → PairRead f p d n
+pair-read f p d n h =
+    let s = two (writtenOf (upToBlank f)) (figureOf tradedForm (afterBlank f)) p d n h in
+    record { inside = blank-before f (omega (arith, lots-some (afterBlank f) n (s .lots) .0)); price = s .price; range = s .range; lots = s .lots }
+
+pub pair-sides :
+    (f a b : List ℕ) (p d n : ℕ) → upToBlank f ≡ a → afterBlank f ≡ b → writtenOf a ≡ Number p d → inRange (priceForm d) p ≡ true →
+    figureOf tradedForm b ≡ Value n → pairOf f ≡ Both p d n
+pair-sides f a b p d n i j price range lots =
+    ap₂ (λ (x y : List ℕ). both (writtenOf x) (figureOf tradedForm y)) i j
+    ∙ ap₂ both price lots
+    ∙ ap (λ (c : Bool). cond c (Both p d n) NoPair) range
+
+pub read-pair : (f : List ℕ) (p d n : ℕ) → PairRead f p d n → pairOf f ≡ Both p d n
+read-pair f p d n r = pair-sides f (upToBlank f) (afterBlank f) p d n refl refl (r .price) (r .range) (r .lots)
+
+missing : (w : Written) (l : Figure) → ((p d n : ℕ) → both w l ≡ Both p d n → ⊥) → both w l ≡ NoPair
+missing (Number p d) l h = go (inRange (priceForm d) p) refl l h
+  where
+    go : (b : Bool) → inRange (priceForm d) p ≡ b → (l : Figure) → ((q x n : ℕ) → both (Number p d) l ≡ Both q x n → ⊥) → cond b (withLots p d l) NoPair ≡ NoPair
+    go true e (Value n) k = absurd (k p d n (ap (λ (b : Bool). cond b (Both p d n) NoPair) e))
+    go true e CommaIn k = refl
+    go true e NoFigure k = refl
+    go false e l k = refl
+missing Comma l h = refl
+missing Malformed l h = refl
+
+pub no-pair : (f : List ℕ) → ((p d n : ℕ) → PairRead f p d n → ⊥) → pairOf f ≡ NoPair
+no-pair f h = missing (writtenOf (upToBlank f)) (figureOf tradedForm (afterBlank f)) (λ p d n e. h p d n (pair-read f p d n e))
 
 -- 8 bytes of a price, the blank, 7 bytes of lots
-pub pair-short : (f : List ℕ) (p n : ℕ) → PairRead f p n → length f ≤ 16
-pair-short f p n r =
+pub pair-short : (f : List ℕ) (p d n : ℕ) → PairRead f p d n → length f ≤ 16
+pair-short f p d n r =
     let s = ap length (blank-inside f (r .inside)) ∙ length-append (upToBlank f) (code " " ∷ afterBlank f) in
-    omega (arith, s, number-most priceForm (upToBlank f) p (r .price), number-most tradedForm (afterBlank f) n (r .lots))
+    omega (arith, s, written-size (upToBlank f) p d (r .price) .0, lots-some (afterBlank f) n (r .lots) .1)
 
-pub too-long : (f : List ℕ) → 16 < length f → pairOf f ≡ NoPair
-too-long f l =
-    missing (numberOf priceForm (upToBlank f)) (numberOf tradedForm (afterBlank f)) (λ p n x y.
-    omega (arith, pair-short f p n (record { inside = between f n y; price = x; lots = y })))
+-- The price, by the figure at the start.
 
-pub no-price : (f : List ℕ) → frontOf priceForm f ≡ NoFront → pairOf f ≡ NoPair
-no-price f h =
-    missing (numberOf priceForm (upToBlank f)) (numberOf tradedForm (afterBlank f)) (λ p n x y. front-missing priceForm f p h (between f n y) x)
+pub pair-start : (f : List ℕ) (p d n x y e : ℕ) → startOf f ≡ Ends x y e → PairRead f p d n → (x ≡ p) × (y ≡ d) × (e ≡ length (upToBlank f))
+pair-start f p d n x y e h r = let k = sym h ∙ front-start f p d (r .inside) (r .price) in (cc, cc, cc)
+
+pub price-least : (p d : ℕ) → inRange (priceForm d) p ≡ true → 1 ≤ p
+price-least p d h = leb-true 1 p (and-eq-true-iff (leb 1 p) (leb p 9_999_999) .0 h .0)
+
+pub price-in : (u : List ℕ) (p d : ℕ) → writtenOf u ≡ Number p d → 1 ≤ p → inRange (priceForm d) p ≡ true
+price-in u p d h k = simp (le-leb 1 p k, le-leb p 9_999_999 (written-most u p d h))

@@ -15,9 +15,7 @@ use Rattle.figures.specs.declared.number.Digits.the-variants.{Number, Ot
 use Rattle.figures.specs.Numbers.{digitsAfter}
 use Rattle.figures.specs.Two.{bytesAt, twoAt}
 use Rattle.figures.specs.Stamps.{dayBy, stampIn}
-use Rattle.figures.proofs.Numbers.{counted}
-use Rattle.figures.proofs.Stamps.{stampFrom}
-use Rattle.figures.proofs.Cuts.{chosen}
+use Rattle.figures.proofs.Stamps.{counted, chosen, stampFrom}
 use Rattle.figures.proofs.Twos.{split, two-most, dayBytes, timeBytes, day-bytes, time-bytes, after, day-number}
 use Rattle.figures.proofs.Dates.{dated, date-range, timed}
 

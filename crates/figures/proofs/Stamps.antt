@@ -19,7 +19,24 @@ use Rattle.figures.specs.declared.number.Digits.{Digits}
 use Rattle.figures.specs.declared.number.Digits.the-variants.{Number, Other}
 use Rattle.figures.specs.Numbers.{digitsAfter}
 use Rattle.figures.specs.Stamps.{then, stampBy, stampIn}
-use Rattle.figures.proofs.Figures.{figureBy}
+
+-- the figure of a number
+abbrev pub figured : Digits → Figure
+figured (Number n) = Value n
+figured Other = Malformed
+
+pub valued : (d : Digits) (n : ℕ) → figured d ≡ Value n → d ≡ Number n
+valued (Number m) n h = cc
+valued Other n h = let z : _≡_ {A = ℕ} 0 1 = cc in absurd (omega arith)
+
+-- where there is a number, the tests held
+pub counted : (good : Bool) (m n : ℕ) → cond good (Number m) Other ≡ Number n → (good ≡ true) × (m ≡ n)
+counted true m n h = (refl, cc)
+counted false m n h = let z : _≡_ {A = ℕ} 0 1 = cc in absurd (omega arith)
+
+pub chosen : (good : Bool) (s : Digits) (n : ℕ) → cond good s Other ≡ Number n → (good ≡ true) × (s ≡ Number n)
+chosen true s n h = (refl, h)
+chosen false s n h = let z : _≡_ {A = ℕ} 0 1 = cc in absurd (omega arith)
 
 -- the stamp of two numbers, where they are such
 abbrev pub stampFrom : Digits → Digits → Digits
@@ -52,21 +69,21 @@ stamp-written day time e =
 
 -- What the definition says of it.
 
-tested : (good : Bool) (n : ℕ) → cond good (Value n) Malformed ≡ figureBy false (cond good (Number n) Other)
+tested : (good : Bool) (n : ℕ) → cond good (Value n) Malformed ≡ figured (cond good (Number n) Other)
 tested true n = refl
 tested false n = refl
 
 by-digits :
     (day time : Bool) (d t : ℕ) →
     cond (day && time && isDay d && isTime t) (Value (stampNumber d t)) Malformed
-    ≡ figureBy false (stampFrom (cond day (Number d) Other) (cond time (Number t) Other))
+    ≡ figured (stampFrom (cond day (Number d) Other) (cond time (Number t) Other))
 by-digits true true d t = tested (isDay d && isTime t) (stampNumber d t)
 by-digits true false d t = refl
 by-digits false time d t = refl
 
 pub stamp-of :
     (day time : List ℕ) → length day ≡ 8 → length time ≡ 4 →
-    stampOf day time ≡ figureBy false (stampFrom (digitsAfter 0 day) (digitsAfter 0 time))
+    stampOf day time ≡ figured (stampFrom (digitsAfter 0 day) (digitsAfter 0 time))
 unfolding stampOf
 stamp-of day time e f =
     let d = numberAfter 0 day in

@@ -10,7 +10,7 @@ use Rattle.rules.specs.Figures.{fen, lots}
 use Rattle.rules.specs.Stamp.{stamp}
 
 abbrev pub good : Opening → Bool
-good (Made t) = true
+good (Made t x) = true
 good Comma = false
 good Malformed = false
 
@@ -19,14 +19,14 @@ tradeOf bought p n d = record { bought = bought; price = fen p; lots = lots n; s
 
 -- For those who read it again.
 
-pub made-good : (o : Opening) (t : Trade) → o ≡ Made t → good o ≡ true
-made-good o t e = ap good e
+pub made-good : (o : Opening) (t : Trade) (x : ℕ) → o ≡ Made t x → good o ≡ true
+made-good o t x e = ap good e
 
-pub good-made : (o : Opening) → good o ≡ true → (t : Trade) × (o ≡ Made t)
-good-made (Made t) h = (t, refl)
+pub good-made : (o : Opening) → good o ≡ true → (t : Trade) × ((x : ℕ) × (o ≡ Made t x))
+good-made (Made t x) h = (t, (x, refl))
 good-made Comma h = absurd (false≢true h)
 good-made Malformed h = absurd (false≢true h)
 
 -- there is one such trade
-pub made-one : (o : Opening) (t u : Trade) → o ≡ Made t → o ≡ Made u → t ≡ u
-made-one o t u e f = cc
+pub made-one : (o : Opening) (t u : Trade) (x y : ℕ) → o ≡ Made t x → o ≡ Made u y → (t ≡ u) × (x ≡ y)
+made-one o t u x y e f = (cc, cc)

@@ -1,6 +1,6 @@
 pub mod Numbers
-pub mod Fronts
-pub mod Pairs
 pub mod Two
+pub mod Starts
+pub mod Pairs
 pub mod Stamps
 pub mod Good

@@ -4,7 +4,8 @@ ghost use Prim.Native.Nat.{ℕ};
 ghost use lib.ListN.{length};
 ghost use Rattle.figures.specs.declared.number.Digits.the-variants.{Number};
 ghost use Rattle.figures.specs.declared.pair.Pair.the-variants.{Both};
-ghost use Rattle.figures.specs.Pairs.{pairOf};
+ghost use Rattle.figures.specs.Starts.{Fronted, frontedAt};
+ghost use Rattle.figures.specs.Pairs.{Paired, pairOf};
 ghost use Rattle.figures.specs.Stamps.{stampIn};
 use crate::number::read_run;
 use crate::stamp::stamp_from;
@@ -30,17 +31,41 @@ pub struct Traded {
     pub lots: u64,
 }
 
-// And those before: the digits of the price end at its point.
-pub fn pair_again(v: &[u8]) -> Traded
-    requires { ⌜ ((p : ℕ) × ((n : ℕ) × (pairOf (now v) ≡ Both p n))) ⌝ }
-    ensures { λ r. ⌜ pairOf (now (v .entry)) ≡ Both (r .price) (r .lots) ⌝ }
+// A price's number, and the place of the blank after it.
+struct Priced {
+    price: u64,
+    blank: usize,
+}
+
+// The digits of the price before its point, and where it has one those behind it.
+fn price_again(v: &[u8]) -> Priced
+    requires { ⌜ Fronted (now v) ⌝ }
+    ensures { λ r. ⌜ frontedAt (r .price) (r .blank) (now (v .entry)) ⌝ }
 {
     let whole = read_run(v, 0);
     let point = whole.size;
-    let price = whole.number * 100 + two_of(v, point + 1);
-    let lots = read_run(&v[point + 4..], 0);
+    if v[point] != b'.' {
+        return Priced {
+            price: whole.number,
+            blank: point,
+        };
+    }
+    let rest = read_run(&v[point + 1..], whole.number);
+    Priced {
+        price: rest.number,
+        blank: point + 1 + rest.size,
+    }
+}
+
+// And the lots after the blank.
+pub fn pair_again(v: &[u8]) -> Traded
+    requires { ⌜ Paired (now v) ⌝ }
+    ensures { λ r. ⌜ ((d : ℕ) × (pairOf (now (v .entry)) ≡ Both (r .price) d (r .lots))) ⌝ }
+{
+    let front = price_again(v);
+    let lots = read_run(&v[front.blank + 1..], 0);
     Traded {
-        price,
+        price: front.price,
         lots: lots.number,
     }
 }

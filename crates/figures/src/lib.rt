@@ -1,25 +1,25 @@
 // Reads the figures of a book, and the value of a trade, which is two of them and a stamp. A figure that is well formed has no comma,
 // so a comma is looked for only in a value that could not be read.
 ghost use mathlib.Core.Path.{_≡_};
-ghost use Prim.Native.Nat.{_+_, _≤_};
+ghost use Prim.Native.Nat.{ℕ};
 ghost use mathlib.Core.Bool.{true};
 ghost use Rattle.rules.specs.declared.Opening.the-variants.{Made};
-ghost use Rattle.rules.specs.Figures.{figureOf, has};
+ghost use Rattle.rules.specs.declared.Written.the-variants.{Number};
+ghost use Rattle.rules.specs.Figures.{priceForm, writtenOf, asked, figureOf, has};
 ghost use Rattle.rules.specs.Opening.{openingOf};
 ghost use Rattle.figures.specs.Good.{good, tradeOf};
-ghost use Rattle.figures.specs.Numbers.{noOpening};
+ghost use Rattle.figures.specs.Numbers.{noFigure, refusedAs, noOpening};
 
 mod again;
-mod front;
 mod number;
 mod pair;
 mod stamp;
+mod start;
 mod two;
 
 use again::pair_again;
 use again::stamp_again;
 use number::Digits;
-use number::read_number;
 use pair::Pair;
 use pair::read_pair;
 use rules::Fen;
@@ -29,17 +29,15 @@ use rules::Lots;
 use rules::Opening;
 use rules::Stamp;
 use rules::Trade;
+use rules::Written;
 use stamp::read_stamp;
+use start::Start;
+use start::read_start;
 
-pub const PRICE: Form = Form {
-    whole: 5,
-    decimals: 2,
-    least: 1, // 0.01
-    most: 9_999_999, // 99999.99
-};
+// 99999.99
+const LONGEST: usize = 8;
 
 pub const RATE: Form = Form {
-    whole: 2,
     decimals: 3,
     least: 1, // 0.001
     most: 99_999, // 99.999
@@ -47,11 +45,28 @@ pub const RATE: Form = Form {
 
 // Lots in K, H and Q.
 pub const HELD: Form = Form {
-    whole: 7,
     decimals: 0,
     least: 0,
     most: 1_000_000,
 };
+
+// Lots in a trade.
+pub const TRADED: Form = Form {
+    decimals: 0,
+    least: 1,
+    most: 1_000_000,
+};
+
+// A price in a book whose prices have so many decimals: 0.01 to 99999.99, or 1 to 9999999.
+pub fn price_form(decimals: usize) -> Form
+    ensures { λ r. ⌜ r ≡ priceForm decimals ⌝ }
+{
+    Form {
+        decimals,
+        least: 1,
+        most: 9_999_999,
+    }
+}
 
 fn has_comma(v: &[u8]) -> bool
     ensures { λ r. ⌜ r ≡ has "," (now (v .entry)) ⌝ }
@@ -66,17 +81,75 @@ fn has_comma(v: &[u8]) -> bool
     false
 }
 
+fn no_figure(v: &[u8]) -> Written
+    ensures { λ r. ⌜ r ≡ noFigure (now (v .entry)) ⌝ }
+{
+    if has_comma(v) {
+        Written::Comma
+    } else {
+        Written::Malformed
+    }
+}
+
+// A number of so many decimals, to who asks for a form.
+fn allowed(form: Form, number: u64, decimals: usize) -> Figure
+    ensures { λ r. ⌜ r ≡ asked form (Number number decimals) ⌝ }
+{
+    if decimals != form.decimals {
+        return Figure::Malformed;
+    }
+    if number < form.least {
+        return Figure::Malformed;
+    }
+    if form.most < number {
+        return Figure::Malformed;
+    }
+    Figure::Value(number)
+}
+
+// What a figure says, with the decimals that it has.
+pub fn read_written(v: &[u8]) -> Written
+    ensures { λ r. ⌜ r ≡ writtenOf (now (v .entry)) ⌝ }
+{
+    if LONGEST < v.len() {
+        return no_figure(v);
+    }
+    let Start::Ends {
+        number,
+        decimals,
+        end,
+    } = read_start(v)
+    else {
+        return no_figure(v);
+    };
+    if end != v.len() {
+        return no_figure(v);
+    }
+    Written::Number { number, decimals }
+}
+
+fn refused(written: Written) -> Figure
+    ensures { λ r. ⌜ r ≡ refusedAs written ⌝ }
+{
+    match written {
+        Written::Number {
+            number: _,
+            decimals: _,
+        } => Figure::Malformed,
+        Written::Comma => Figure::Comma,
+        Written::Malformed => Figure::Malformed,
+    }
+}
+
+// And what it says to who asks for a form: the one reader of every figure.
 pub fn read_figure(v: &[u8], form: Form) -> Figure
-    requires { ⌜ form .whole + form .decimals ≤ 9 ⌝ }
     ensures { λ r. ⌜ r ≡ figureOf form (now (v .entry)) ⌝ }
 {
-    let Digits::Number(n) = read_number(v, form) else {
-        if has_comma(v) {
-            return Figure::Comma;
-        }
-        return Figure::Malformed;
+    let written = read_written(v);
+    let Written::Number { number, decimals } = written else {
+        return refused(written);
     };
-    Figure::Value(n)
+    allowed(form, number, decimals)
 }
 
 fn no_opening(v: &[u8]) -> Opening
@@ -112,16 +185,24 @@ pub fn read_opening(v: &[u8], bought: bool) -> Opening
     let Digits::Number(made) = read_stamp(&v[cut..]) else {
         return no_opening(v);
     };
-    let Pair::Both(price, lots) = read_pair(&v[..cut]) else {
+    let Pair::Both {
+        price,
+        decimals,
+        lots,
+    } = read_pair(&v[..cut])
+    else {
         return no_opening(v);
     };
-    Opening::Made(trade_of(bought, price, lots, made))
+    Opening::Made {
+        trade: trade_of(bought, price, lots, made),
+        decimals,
+    }
 }
 
 // A trade that was read before, read again: nothing can be wrong with it.
 pub fn read_again(v: &[u8], bought: bool) -> Trade
     requires { ⌜ good (openingOf bought (now v)) ≡ true ⌝ }
-    ensures { λ r. ⌜ openingOf bought (now (v .entry)) ≡ Made r ⌝ }
+    ensures { λ r. ⌜ ((d : ℕ) × (openingOf bought (now (v .entry)) ≡ Made r d)) ⌝ }
 {
     let cut = v.len() - stamp::SIZE;
     let both = pair_again(&v[..cut]);

@@ -31,7 +31,7 @@ use Rattle.trades.proofs.Runs.{Ends, Means, run-means}
 -- a customer with this position and no trade yet, whose C is at `place`, and the fields from `first` on
 module _ (terms : Terms) (p : Position) (place first : ℕ) (fs : List Field) where
   abbrev pub summed : TradesAt
-  summed = tradesFrom (netLong p) (terms .settlement) first 0 (pos 0) noneYet fs
+  summed = tradesFrom (terms .decimals) (netLong p) (terms .settlement) first 0 (pos 0) noneYet fs
 
   means : (code : List ℕ) → Means (netLong p) (terms .settlement) terms place (started p code) [] first fs summed
   means code =

@@ -11,7 +11,7 @@ use Rattle.rules.specs.declared.Fen.{Fen}
 use Rattle.rules.specs.declared.Trade.{Trade}
 use Rattle.rules.specs.Division.{sumOf}
 use Rattle.rules.specs.Fields.{Field}
-use Rattle.rules.specs.Book.{opened, begun, noTerms}
+use Rattle.rules.specs.Book.{opened, begun, noTerms, withDecimals}
 use Rattle.rules.specs.Standing.{gainFrom}
 use Rattle.laws.specs.Gains.{lotsOn, oldestGain, newest-first, newest-size}
 use Rattle.order.specs.Order.{inFront, arranged}
@@ -28,11 +28,11 @@ use Rattle.trades.proofs.Readable.{closed-good}
 use Rattle.trades.proofs.Runs.{Ends, Means, run-means}
 use Rattle.trades.specs.Walk.{newestOf}
 
-module _ (long : Bool) (s : Fen) (first : ℕ) (fs : List Field) (place sum : ℕ) (gain : ℤ) (ordered : Bool)
-    (reads : tradesFrom long s first 0 (pos 0) noneYet fs ≡ Closed place sum gain ordered) where
+module _ (x : ℕ) (long : Bool) (s : Fen) (first : ℕ) (fs : List Field) (place sum : ℕ) (gain : ℤ) (ordered : Bool)
+    (reads : tradesFrom x long s first 0 (pos 0) noneYet fs ≡ Closed place sum gain ordered) where
   -- whoever's they are, under whatever terms
-  ends : Ends long s noTerms 0 (begun []) [] first fs place sum gain ordered
-  ends = subst (Means long s noTerms 0 (begun []) [] first fs) reads (run-means long s noTerms 0 (begun []) [] first 0 (pos 0) noneYet fs (adds-none long s (begun []) refl))
+  ends : Ends long s (withDecimals noTerms x) 0 (begun []) [] first fs place sum gain ordered
+  ends = subst (Means long s (withDecimals noTerms x) 0 (begun []) [] first fs) reads (run-means long s (withDecimals noTerms x) 0 (begun []) [] first 0 (pos 0) noneYet fs (adds-none long s (begun []) refl))
 
   pub lots-are : sum ≡ sumOf (lotsOn long) (tradesIn fs)
   lots-are =
@@ -41,7 +41,7 @@ module _ (long : Bool) (s : Fen) (first : ℕ) (fs : List Field) (place sum : �
 
   -- nothing can be wrong with one of them
   pub all-good : goodIn fs ≡ true
-  all-good = closed-good long s place sum gain ordered fs first 0 (pos 0) noneYet reads
+  all-good = closed-good x long s place sum gain ordered fs first 0 (pos 0) noneYet reads
 
   -- where all count, these are the newest
   pub all-newest : gain ≡ newestOf long s sum fs

@@ -11,8 +11,8 @@ use Rattle.rules.specs.Fields.{fieldsOf}
 use Rattle.trades.specs.declared.TradesAt.the-variants.{Closed}
 use Rattle.trades.specs.Trades.{noneYet, tradesFrom}
 
-pub record Summed (long : Bool) (s : Fen) (book : List ℕ) (first need opened : ℕ) (gain : ℤ) (ordered : Bool) : Type 0 where
+pub record Summed (x : ℕ) (long : Bool) (s : Fen) (book : List ℕ) (first need opened : ℕ) (gain : ℤ) (ordered : Bool) : Type 0 where
   pub place : ℕ
-  pub reads : tradesFrom long s first 0 (pos 0) noneYet (fieldsOf (drop first book)) ≡ Closed place opened gain ordered
+  pub reads : tradesFrom x long s first 0 (pos 0) noneYet (fieldsOf (drop first book)) ≡ Closed place opened gain ordered
   pub covers : need ≤ opened
   pub few : need ≤ 4_000_000

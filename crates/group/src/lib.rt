@@ -141,6 +141,7 @@ fn closed_at(terms: Terms, position: Position, place: usize, total: i64) -> Grou
 // Where all of them count, or none, nothing is read again.
 fn total_gain(
     book: &[u8],
+    decimals: usize,
     settlement: Fen,
     long: bool,
     first: usize,
@@ -149,7 +150,7 @@ fn total_gain(
     gain: i64,
     ordered: bool,
 ) -> i64
-    requires { ⌜ Short (now book) ⌝ ∗ ⌜ settlement .0 ≤ 9_999_999 ⌝ ∗ ⌜ Summed long settlement (now book) first need opened gain ordered ⌝ }
+    requires { ⌜ Short (now book) ⌝ ∗ ⌜ settlement .0 ≤ 9_999_999 ⌝ ∗ ⌜ Summed decimals long settlement (now book) first need opened gain ordered ⌝ }
     ensures { λ r. ⌜ r ≡ newestIn long settlement need (now (book .entry)) first ⌝ }
 {
     if need == 0 {
@@ -170,7 +171,7 @@ fn group_of(book: &[u8], terms: Terms, place: usize, position: Position, first: 
     ensures { λ r. ⌜ ((code : List ℕ) → r ≡ groupAt terms (groupFrom terms (Open DueTrade (started position code)) place first (fieldsOf (drop first (now (book .entry)))))) ⌝ }
 {
     let long = gain::net_long(position);
-    match trades::read_trades(book, terms.settlement, long, first) {
+    match trades::read_trades(book, terms.decimals, terms.settlement, long, first) {
         TradesAt::Closed {
             place: at,
             opened,
@@ -186,6 +187,7 @@ fn group_of(book: &[u8], terms: Terms, place: usize, position: Position, first: 
             }
             let total = total_gain(
                 book,
+                terms.decimals,
                 terms.settlement,
                 long,
                 first,

@@ -4,7 +4,8 @@
 use Prim.Native.Nat.{ℕ, _≤_}
 use mathlib.Core.Path.{_≡_, refl}
 use mathlib.Core.List.{List}
-use mathlib.Core.Bool.{Bool, true, false, cond}
+use mathlib.Core.Bool.{Bool, true, false, cond, not}
+use lib.Dec.{eqb}
 use Rattle.rules.specs.declared.Figure.{Figure}
 use Rattle.rules.specs.declared.Figure.the-variants.{Value, Comma, Malformed}
 use Rattle.rules.specs.declared.Form.{Form}
@@ -17,7 +18,7 @@ use Rattle.rules.specs.Refusal as refusal
 use Rattle.rules.specs.Text.{bytes}
 use Rattle.rules.specs.Codes.{same}
 use Rattle.rules.specs.Figures.{figureOf}
-use Rattle.rules.specs.Book.{Step, Stop, Next, must, refuse, figure, trade, lock}
+use Rattle.rules.specs.Book.{Step, Stop, Next, must, refuse, figure, trade, lock, places}
 use Rattle.laws.specs.Figures.{figure-within}
 
 module _ {A : Type 0} (Q : ℕ → Type 0) (P : A → Type 0) where
@@ -43,10 +44,10 @@ module _ {A : Type 0} (Q : ℕ → Type 0) (P : A → Type 0) where
       go Comma e = q₄
       go Malformed e = q₅
 
-  pub trade-keeps : (o : Opening) (next : Trade → Step A) → Q refusal.comma → Q refusal.malformed → ((t : Trade) → Keeps (next t)) → Keeps (trade o next)
-  trade-keeps (Made t) next q₄ q₅ h = h t
-  trade-keeps CommaIn next q₄ q₅ h = q₄
-  trade-keeps NoTrade next q₄ q₅ h = q₅
+  pub trade-keeps : (x : ℕ) (o : Opening) (next : Trade → Step A) → Q refusal.comma → Q refusal.malformed → ((t : Trade) → Keeps (next t)) → Keeps (trade x o next)
+  trade-keeps x (Made t d) next q₄ q₅ h = refuse-keeps refusal.malformed (not (eqb d x)) (next t) q₅ (λ e. h t)
+  trade-keeps x CommaIn next q₄ q₅ h = q₄
+  trade-keeps x NoTrade next q₄ q₅ h = q₅
 
   pub lock-keeps : (v : List ℕ) (next : Bool → Step A) → Q refusal.malformed → ((d : Bool) → Keeps (next d)) → Keeps (lock v next)
   lock-keeps v next q h = go (same v (bytes "D")) (same v (bytes "U"))
@@ -54,6 +55,14 @@ module _ {A : Type 0} (Q : ℕ → Type 0) (P : A → Type 0) where
       go : (a b : Bool) → Keeps (cond a (next true) (cond b (next false) (Stop refusal.malformed)))
       go true b = h true
       go false true = h false
+      go false false = q
+
+  pub places-keeps : (v : List ℕ) (next : ℕ → Step A) → Q refusal.malformed → ((x : ℕ) → Keeps (next x)) → Keeps (places v next)
+  places-keeps v next q h = go (same v (bytes "0")) (same v (bytes "2"))
+    where
+      go : (a b : Bool) → Keeps (cond a (next 0) (cond b (next 2) (Stop refusal.malformed)))
+      go true b = h 0
+      go false true = h 2
       go false false = q
 
 -- and what follows from what holds

@@ -29,6 +29,7 @@ use Rattle.rules.specs.Book.{
   within,
   Term,
   DueD,
+  DueX,
   DueS,
   DueL,
   DueU,
@@ -40,9 +41,10 @@ use Rattle.rules.specs.Book.{
   Reading,
   Ended,
   locked,
+  withDecimals,
   step,
 }
-use Rattle.laws.specs.Keeps.{Keeps, must-keeps, refuse-keeps, figure-keeps, trade-keeps, lock-keeps}
+use Rattle.laws.specs.Keeps.{Keeps, must-keeps, refuse-keeps, figure-keeps, trade-keeps, lock-keeps, places-keeps}
 
 -- a refusal at the field's own tag: above 0, and not 9
 pub record AtTag (n : ℕ) : Type 0 where
@@ -70,8 +72,10 @@ EarlyStage (Ended terms cs) = ⊥
 pub term-leads : (term : Term) (ts : Terms) (t : ℕ) (v : List ℕ) → Keeps AtTag EarlyStage (step (AtTerm term ts) t v)
 unfolding step
 term-leads DueD ts t v =
-    must-keeps AtTag EarlyStage misplaced (is "D" t) _ (lock-keeps AtTag EarlyStage v (λ d. Next (Reading (AtTerm DueS (locked ts d)))) malformed (λ d. tt))
-term-leads DueS ts t v = must-keeps AtTag EarlyStage misplaced (is "S" t) _ (figure-keeps AtTag EarlyStage priceForm v _ comma malformed (λ n k. tt))
+    must-keeps AtTag EarlyStage misplaced (is "D" t) _ (lock-keeps AtTag EarlyStage v (λ d. Next (Reading (AtTerm DueX (locked ts d)))) malformed (λ d. tt))
+term-leads DueX ts t v =
+    must-keeps AtTag EarlyStage misplaced (is "X" t) _ (places-keeps AtTag EarlyStage v (λ x. Next (Reading (AtTerm DueS (withDecimals ts x)))) malformed (λ x. tt))
+term-leads DueS ts t v = must-keeps AtTag EarlyStage misplaced (is "S" t) _ (figure-keeps AtTag EarlyStage (priceForm (ts .decimals)) v _ comma malformed (λ n k. tt))
 term-leads DueL ts t v = must-keeps AtTag EarlyStage misplaced (is "L" t) _ (figure-keeps AtTag EarlyStage rateForm v _ comma malformed (λ n k. tt))
 term-leads DueU ts t v = must-keeps AtTag EarlyStage misplaced (is "U" t) _ (figure-keeps AtTag EarlyStage rateForm v _ comma malformed (λ n k. tt))
 term-leads DueV ts t v =
@@ -82,6 +86,7 @@ term-leads DueV ts t v =
 pub no-C : (term : Term) (ts : Terms) (v : List ℕ) → step (AtTerm term ts) (code "C") v ≡ Stop refusal.misplaced
 unfolding step
 no-C DueD ts v = refl
+no-C DueX ts v = refl
 no-C DueS ts v = refl
 no-C DueL ts v = refl
 no-C DueU ts v = refl
@@ -90,6 +95,7 @@ no-C DueV ts v = refl
 pub no-Z : (term : Term) (ts : Terms) (v : List ℕ) → step (AtTerm term ts) (code "Z") v ≡ Stop refusal.misplaced
 unfolding step
 no-Z DueD ts v = refl
+no-Z DueX ts v = refl
 no-Z DueS ts v = refl
 no-Z DueL ts v = refl
 no-Z DueU ts v = refl
@@ -118,5 +124,5 @@ part-leads terms DueQ c t v =
     refuse-keeps AtTag (FurtherGroup c) refusal.overdrawn (overdrawn terms (record { long = c .position .long; short = c .position .short; unfilled = lots q })) _
     (record { above = omega arith; own = refl }) (λ e. record { code = refl; long = λ l. l; short = λ l. l })))
 part-leads terms DueTrade c t v =
-    must-keeps AtTag (FurtherGroup c) misplaced (is "B" t || is "A" t) _ (trade-keeps AtTag (FurtherGroup c) (openingOf (is "B" t) v) _ comma malformed (λ x.
+    must-keeps AtTag (FurtherGroup c) misplaced (is "B" t || is "A" t) _ (trade-keeps AtTag (FurtherGroup c) (terms .decimals) (openingOf (is "B" t) v) _ comma malformed (λ x.
     record { code = refl; long = λ l. l; short = λ l. l }))

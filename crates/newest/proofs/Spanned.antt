@@ -33,7 +33,7 @@ module _ (long : Bool) where
       go false o e h = tt
       go true Comma e h = tt
       go true Malformed e h = tt
-      go true (Made x) e h = let w = stamp-within (is "B" t) v x e in (w .0, w .1, h)
+      go true (Made x d) e h = let w = stamp-within (is "B" t) v x d e in (w .0, w .1, h)
 
   pub spanned : (book : List ℕ) (first need opened : ℕ) → Sought long book first need opened → Range (fromIn long book first) need 28_800_000_000 1_440_000_000 opened
   unfolding fromIn

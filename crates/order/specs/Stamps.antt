@@ -41,5 +41,5 @@ stamp-range day time n h =
     let b = leb-true year 2099 until in
     (omega (arith, s .1), omega (arith, s .1))
 
-pub stamp-within : (bought : Bool) (v : List ℕ) (t : Trade) → openingOf bought v ≡ Made t → (28_800_000_000 ≤ t .stamp .0) × (t .stamp .0 < 30_240_000_000)
-stamp-within bought v t h = stamp-range (upToBlank (behindLots v)) (afterBlank (behindLots v)) (t .stamp .0) (opening-read bought v t h .stamp)
+pub stamp-within : (bought : Bool) (v : List ℕ) (t : Trade) (x : ℕ) → openingOf bought v ≡ Made t x → (28_800_000_000 ≤ t .stamp .0) × (t .stamp .0 < 30_240_000_000)
+stamp-within bought v t x h = stamp-range (upToBlank (behindLots v)) (afterBlank (behindLots v)) (t .stamp .0) (opening-read bought v t x h .stamp)

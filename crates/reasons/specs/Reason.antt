@@ -11,20 +11,21 @@ use Rattle.reasons.specs.Lines.{lineOf}
 
 -- the tags of a book, in the order of their names below
 abbrev pub tags : List ℕ
-tags = bytes "DSLUVCKHQBAZ"
+tags = bytes "DXSLUVCKHQBAZ"
 
 -- the place of a byte among them; their number where it is none of them
 abbrev pub placeIn : ℕ → List ℕ → ℕ
 placeIn t [] = 0
 placeIn t (x ∷ xs) = cond (eqb x t) 0 (suc (placeIn t xs))
 
--- the field that begins at a place of the book, as a place among the names; 12 where a byte is no tag, and 13 where the book has ended
+-- the field that begins at a place of the book, as a place among the names; 13 where a byte is no tag, and 14 where the book has ended
 abbrev pub fieldAt : List ℕ → ℕ → ℕ
-fieldAt book place = cond (ltb place (length book)) (placeIn (getD book place 0) tags) 13
+fieldAt book place = cond (ltb place (length book)) (placeIn (getD book place 0) tags) 14
 
 abbrev pub names : List ℕ
 names =
     bytes "the limit D\n" ++
+    bytes "the decimals X\n" ++
     bytes "the settlement price S\n" ++
     bytes "the loss edge L\n" ++
     bytes "the tier 1 edge U\n" ++
@@ -67,18 +68,18 @@ plain =
 
 -- 2, 3, 4 and 5 name the field, where there is one
 abbrev pub named : ℕ → ℕ → Bool
-named n f = cond (ltb f 12) (cond (leb 2 n) (leb n 5) false) false
+named n f = cond (ltb f 13) (cond (leb 2 n) (leb n 5) false) false
 
 unfoldable pub withField : ℕ → ℕ → List ℕ
 withField n f = lineOf n leads ++ lineOf f names
 
 abbrev pub plainLine : ℕ → ℕ → ℕ
-plainLine n f = cond (eqb f 13) (cond (eqb n 2) 13 (min n 12)) (min n 12)
+plainLine n f = cond (eqb f 14) (cond (eqb n 2) 13 (min n 12)) (min n 12)
 
 unfoldable pub reason : ℕ → ℕ → List ℕ
 reason n f = cond (named n f) (withField n f) (lineOf (plainLine n f) plain)
 
--- the line of a program on standard error: `allot: refused 4 at 13: a comma in the loss edge L`
+-- the line of a program on standard error: `allot: refused 4 at 17: a comma in the loss edge L`
 abbrev pub why : ℕ → ℕ → List ℕ
 why n f = bytes ": " ++ (reason n f ++ bytes "\n")
 

@@ -16,10 +16,10 @@ ghost use Rattle.reasons.specs.Reason.{placeIn, fieldAt, named, plainLin
 pub const WORDS_ROOM: usize = 128;
 
 // The number of tags that a book has, and the place of a byte that is none of them.
-const NO_TAG: usize = 12;
+const NO_TAG: usize = 13;
 
 // The place of a field that begins behind the book.
-const BEHIND: usize = 13;
+const BEHIND: usize = 14;
 
 // The line after those of all numbers, and the one after it, for a book that has ended where a field is due.
 const NO_NUMBER: u64 = 12;
@@ -93,7 +93,7 @@ pub fn field_at(book: &[u8], place: u64) -> usize
     ensures { λ r. ⌜ r ≡ fieldAt (now (book .entry)) place ⌝ }
 {
     if place < book.len() as u64 {
-        return place_in(book[place as usize], b"DSLUVCKHQBAZ");
+        return place_in(book[place as usize], b"DXSLUVCKHQBAZ");
     }
     BEHIND
 }
@@ -123,7 +123,7 @@ fn put_named(out: &mut [u8], at: usize, number: usize, field: usize) -> usize
     put_line(
         out,
         name,
-        b"the limit D\nthe settlement price S\nthe loss edge L\nthe tier 1 edge U\nthe tier 2 edge V\nthe customer code C\nthe lots held long K\nthe lots held short H\nthe unfilled lots Q\nthe bought trade B\nthe sold trade A\nthe end Z\n",
+        b"the limit D\nthe decimals X\nthe settlement price S\nthe loss edge L\nthe tier 1 edge U\nthe tier 2 edge V\nthe customer code C\nthe lots held long K\nthe lots held short H\nthe unfilled lots Q\nthe bought trade B\nthe sold trade A\nthe end Z\n",
         field,
     )
 }

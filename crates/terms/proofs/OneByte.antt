@@ -1,6 +1,5 @@
 -- A value of one byte, and one of another length, against D's two letters.
 -- Assumes nothing.
-use Prim.Native.Char.{code}
 use Prim.Native.Nat.{ℕ, _<_}
 use mathlib.Core.Path.{_≡_, refl}
 use mathlib.Core.List.{List, [], _∷_}
@@ -9,31 +8,31 @@ use lib.ListN.{length, take, drop, getD}
 use lib.Seq.{drop-cons}
 use lib.Dec.{eqb}
 use Rattle.rules.specs.Refusal as refusal
-use Rattle.terms.specs.declared.LockAt.the-variants.{Locked}
-use Rattle.terms.specs.declared.LockAt.the-variants.{Refused as NoLock}
+use Rattle.terms.specs.declared.LetterAt.the-variants.{Chosen}
+use Rattle.terms.specs.declared.LetterAt.the-variants.{Refused as NoLetter}
 use Rattle.fields.specs.Reading.{refusedAt}
-use Rattle.terms.specs.Terms.{lockAt}
+use Rattle.terms.specs.Terms.{letterAt}
 
 -- another length is neither
-pub lock-long : (e : ℕ) (v : List ℕ) → (length v ≡ 1 → ⊥) → lockAt e v ≡ NoLock (refusedAt refusal.malformed 0)
-lock-long e [] h = refl
-lock-long e (x ∷ []) h = absurd (h refl)
-lock-long e (x ∷ y ∷ v) h = go (eqb x (code "D")) (eqb x (code "U"))
+pub letter-long : (at a b e : ℕ) (v : List ℕ) → (length v ≡ 1 → ⊥) → letterAt at a b e v ≡ NoLetter (refusedAt refusal.malformed at)
+letter-long at a b e [] h = refl
+letter-long at a b e (x ∷ []) h = absurd (h refl)
+letter-long at a b e (x ∷ y ∷ v) h = go (eqb x a) (eqb x b)
   where
-    go : (a b : Bool) → cond (a && false) (Locked true e) (cond (b && false) (Locked false e) (NoLock (refusedAt refusal.malformed 0))) ≡ NoLock (refusedAt refusal.malformed 0)
+    go : (p q : Bool) → cond (p && false) (Chosen true e) (cond (q && false) (Chosen false e) (NoLetter (refusedAt refusal.malformed at))) ≡ NoLetter (refusedAt refusal.malformed at)
     go true true = refl
     go true false = refl
     go false true = refl
     go false false = refl
 
 -- one byte is compared
-pub lock-one : (e : ℕ) (s : List ℕ) (start : ℕ) → start < length s →
-    lockAt e (take 1 (drop start s)) ≡ cond (eqb (getD s start 0) (code "D")) (Locked true e) (cond (eqb (getD s start 0) (code "U")) (Locked false e) (NoLock (refusedAt refusal.malformed 0)))
-lock-one e s start h = rw (drop-cons s start 0 h) (go (eqb (getD s start 0) (code "D")) (eqb (getD s start 0) (code "U")))
+pub letter-one : (at a b e : ℕ) (s : List ℕ) (start : ℕ) → start < length s →
+    letterAt at a b e (take 1 (drop start s)) ≡ cond (eqb (getD s start 0) a) (Chosen true e) (cond (eqb (getD s start 0) b) (Chosen false e) (NoLetter (refusedAt refusal.malformed at)))
+letter-one at a b e s start h = rw (drop-cons s start 0 h) (go (eqb (getD s start 0) a) (eqb (getD s start 0) b))
   where
-    go : (a b : Bool) →
-        cond (a && true) (Locked true e) (cond (b && true) (Locked false e) (NoLock (refusedAt refusal.malformed 0)))
-        ≡ cond a (Locked true e) (cond b (Locked false e) (NoLock (refusedAt refusal.malformed 0)))
-    go true b = refl
+    go : (p q : Bool) →
+        cond (p && true) (Chosen true e) (cond (q && true) (Chosen false e) (NoLetter (refusedAt refusal.malformed at)))
+        ≡ cond p (Chosen true e) (cond q (Chosen false e) (NoLetter (refusedAt refusal.malformed at)))
+    go true q = refl
     go false true = refl
     go false false = refl

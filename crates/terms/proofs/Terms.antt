@@ -6,12 +6,12 @@ use mathlib.Core.Path.{_≡_, refl, _∙_}
 use mathlib.Core.List.{List, [], _∷_}
 use mathlib.Core.Bool.{Bool, true, false, cond}
 use lib.ListN.{length, drop}
-use lib.Dec.{leb}
-use borrow.Author.Tests.{eqb-true}
+use lib.Dec.{leb, eqb}
+use borrow.Author.Tests.{eqb-true, eq-eqb}
 use Rattle.rules.specs.declared.Terms.{Terms}
 use Rattle.rules.specs.declared.Form.{Form}
 use Rattle.rules.specs.Refusal as refusal
-use Rattle.rules.specs.Text.{is, bytes}
+use Rattle.rules.specs.Text.{is}
 use Rattle.rules.specs.Codes.{same}
 use Rattle.rules.specs.Figures.{figureOf, priceForm, rateForm}
 use Rattle.rules.specs.Fields.{Field, Whole, Cut, fieldsOf}
@@ -21,8 +21,8 @@ use Rattle.rules.specs.Book.{
   Next,
   refuse,
   figure,
-  lock,
   Nobody,
+  DueX,
   DueS,
   DueL,
   DueU,
@@ -33,6 +33,7 @@ use Rattle.rules.specs.Book.{
   noTerms,
   atFront,
   locked,
+  withDecimals,
   settled,
   withLoss,
   withEdge1,
@@ -54,7 +55,7 @@ use Rattle.terms.specs.declared.TermsAt.{TermsAt}
 use Rattle.terms.specs.declared.TermsAt.the-variants.{Read as ReadTerms}
 use Rattle.terms.specs.declared.TermsAt.the-variants.{Refused as NoTerms}
 use Rattle.fields.specs.Reading.{refusedAt, figureIn}
-use Rattle.terms.specs.Terms.{lockAt, lockFrom, thenTerms, fromLock, afterLoss, afterLock, termsOf}
+use Rattle.terms.specs.Terms.{letterAt, letterFrom, thenTerms, fromLetter, letterIn, afterLoss, afterPlaces, afterLock, termsOf}
 use Rattle.fields.proofs.Steps.{onFigure, Figured, figured}
 
 abbrev pub bad : Refusal → Verdict
@@ -105,7 +106,7 @@ module _ (s : List ℕ) where
       by false = refl
 
   -- U and V
-  after-loss : (ts : Terms) (at : ℕ) → walk (Reading (AtTerm DueU ts)) 0 at (fieldsOf (drop at s)) ≡ thenWalk (afterLoss s (ts .down) (ts .settlement) (ts .loss) at)
+  after-loss : (ts : Terms) (at : ℕ) → walk (Reading (AtTerm DueU ts)) 0 at (fieldsOf (drop at s)) ≡ thenWalk (afterLoss s (ts .down) (ts .decimals) (ts .settlement) (ts .loss) at)
   unfolding step
   after-loss ts at =
       term (AtTerm DueU ts) "U" at rateForm _ refl (λ v. refl) (λ t v h. rw h) _ λ u atV.
@@ -113,32 +114,52 @@ module _ (s : List ℕ) where
       ordered (withEdge1 ts u) x atV e
 
   -- S, L and these
-  after-lock : (ts : Terms) (at : ℕ) → walk (Reading (AtTerm DueS ts)) 0 at (fieldsOf (drop at s)) ≡ thenWalk (afterLock s (ts .down) at)
+  after-places : (ts : Terms) (at : ℕ) → walk (Reading (AtTerm DueS ts)) 0 at (fieldsOf (drop at s)) ≡ thenWalk (afterPlaces s (ts .down) (ts .decimals) at)
   unfolding step
-  after-lock ts at =
-      term (AtTerm DueS ts) "S" at priceForm _ refl (λ v. refl) (λ t v h. rw h) _ λ p atL.
+  after-places ts at =
+      term (AtTerm DueS ts) "S" at (priceForm (ts .decimals)) _ refl (λ v. refl) (λ t v h. rw h) _ λ p atL.
       term (AtTerm DueL (settled ts p)) "L" atL rateForm _ refl (λ v. refl) (λ t v h. rw h) _ λ l atU.
       after-loss (withLoss (settled ts p) l) atU
 
-  -- D
-  front : (v : List ℕ) (e : ℕ) (fs : List Field) → fs ≡ fieldsOf (drop e s) → (p q : Bool) → same v (bytes "D") ≡ p → same v (bytes "U") ≡ q →
-      go 0 (lock v λ d. Next (Reading (AtTerm DueS (locked noTerms d)))) e fs ≡ thenWalk (fromLock s (lockAt e v) (afterLock s))
-  front v e fs h true q x y = rw (x, h) (after-lock (locked noTerms true) e)
-  front v e fs h false true x y = rw (x, y, h) (after-lock (locked noTerms false) e)
-  front v e fs h false false x y = rw (x, y)
+  -- a term with this tag and one of two letters is due
+  module _ (due : Due) (tag a b : Char) (at : ℕ) (next : Bool → Step Stage)
+      (plain : is "C" (code tag) ≡ false)
+      (tagged : (v : List ℕ) → step due (code tag) v ≡ cond (same v (code a ∷ [])) (next true) (cond (same v (code b ∷ [])) (next false) (Stop refusal.malformed)))
+      (other : (t : ℕ) (v : List ℕ) → is tag t ≡ false → step due t v ≡ Stop refusal.misplaced)
+      (P : Bool → ℕ → TermsAt)
+      (after : (first : Bool) (e : ℕ) → go at (next first) e (fieldsOf (drop e s)) ≡ thenWalk (P first e)) where
+    chosen : (v : List ℕ) (e : ℕ) (fs : List Field) → fs ≡ fieldsOf (drop e s) → (p q : Bool) → same v (code a ∷ []) ≡ p → same v (code b ∷ []) ≡ q →
+        go at (step due (code tag) v) e fs ≡ thenWalk (fromLetter s (letterAt at (code a) (code b) e v) P)
+    chosen v e fs h true q x y = rw (tagged v, x, h) (after true e)
+    chosen v e fs h false true x y = rw (tagged v, x, y, h) (after false e)
+    chosen v e fs h false false x y = rw (tagged v, x, y)
 
+    letter : walk (Reading due) 0 at (fieldsOf (drop at s)) ≡ thenWalk (fromLetter s (letterIn s at tag a b) P)
+    letter = by (fieldsOf (drop at s)) refl
+      where
+        whole : (t : ℕ) (v : List ℕ) (fs : List Field) → fieldsOf (drop at s) ≡ Whole t v ∷ fs → (c : Bool) → is tag t ≡ c →
+            walk (Reading due) 0 at (Whole t v ∷ fs) ≡ thenWalk (fromLetter s (letterFrom at (code tag) (code a) (code b) (Whole t v ∷ fs)) P)
+        whole t v fs e true h =
+            let d : t ≡ code tag = eqb-true _ _ h in
+            let own : eqb (code tag) (code tag) ≡ true = eq-eqb (code tag) (code tag) refl in
+            rw (d, plain, own) (chosen v (at + 3 + length v) fs (fields-next s at t v fs e .rest) (same v (code a ∷ [])) (same v (code b ∷ [])) refl refl)
+        whole t v fs e false h = rw (h, other t v h)
+
+        by : (fs : List Field) → fieldsOf (drop at s) ≡ fs → walk (Reading due) 0 at fs ≡ thenWalk (fromLetter s (letterFrom at (code tag) (code a) (code b) fs) P)
+        by [] e = refl
+        by (Cut ∷ fs) e = refl
+        by (Whole t v ∷ fs) e = whole t v fs e (is tag t) refl
+
+  -- X
+  after-lock : (ts : Terms) (at : ℕ) → walk (Reading (AtTerm DueX ts)) 0 at (fieldsOf (drop at s)) ≡ thenWalk (afterLock s (ts .down) at)
+  unfolding step
+  after-lock ts at =
+      letter (AtTerm DueX ts) "X" "0" "2" at (λ none. Next (Reading (AtTerm DueS (withDecimals ts (cond none 0 2))))) refl (λ v. refl) (λ t v h. rw h) _ λ none e.
+      after-places (withDecimals ts (cond none 0 2)) e
+
+  -- D
   pub terms-mean : walk (Reading atFront) 0 0 (fieldsOf s) ≡ thenWalk (termsOf s)
   unfolding termsOf step
-  terms-mean = by (fieldsOf s) refl
-    where
-      whole : (t : ℕ) (v : List ℕ) (fs : List Field) → fieldsOf s ≡ Whole t v ∷ fs → (b : Bool) → is "D" t ≡ b →
-          walk (Reading atFront) 0 0 (Whole t v ∷ fs) ≡ thenWalk (fromLock s (lockFrom (Whole t v ∷ fs)) (afterLock s))
-      whole t v fs e true h =
-          let d : t ≡ code "D" = eqb-true _ _ h in
-          rw d (front v (3 + length v) fs (fields-next s 0 t v fs e .rest) (same v (bytes "D")) (same v (bytes "U")) refl refl)
-      whole t v fs e false h = rw h
-
-      by : (fs : List Field) → fieldsOf s ≡ fs → walk (Reading atFront) 0 0 fs ≡ thenWalk (fromLock s (lockFrom fs) (afterLock s))
-      by [] e = refl
-      by (Cut ∷ fs) e = refl
-      by (Whole t v ∷ fs) e = whole t v fs e (is "D" t) refl
+  terms-mean =
+      letter atFront "D" "D" "U" 0 (λ d. Next (Reading (AtTerm DueX (locked noTerms d)))) refl (λ v. refl) (λ t v h. rw h) (afterLock s) λ d e.
+      after-lock (locked noTerms d) e

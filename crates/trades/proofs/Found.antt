@@ -23,19 +23,19 @@ use Rattle.trades.specs.declared.TradesAt.the-variants.{Closed, Refused}
 use Rattle.trades.specs.Trades.{opening, orderAfter, tradesFrom}
 
 module _ (at : ℕ) (fs : List Field) (h : firstAt at fs ≡ Short) where
-  pub trades-short : (long : Bool) (s : Fen) (sum : ℕ) (gain : ℤ) (o : Order) → tradesFrom long s at sum gain o fs ≡ Refused (refusedAt refusal.cutShort at)
-  trades-short long s sum gain o = go fs (nothing at fs h)
+  pub trades-short : (x : ℕ) (long : Bool) (s : Fen) (sum : ℕ) (gain : ℤ) (o : Order) → tradesFrom x long s at sum gain o fs ≡ Refused (refusedAt refusal.cutShort at)
+  trades-short x long s sum gain o = go fs (nothing at fs h)
     where
-      go : (l : List Field) → Nothing l → tradesFrom long s at sum gain o l ≡ Refused (refusedAt refusal.cutShort at)
+      go : (l : List Field) → Nothing l → tradesFrom x long s at sum gain o l ≡ Refused (refusedAt refusal.cutShort at)
       go [] none = refl
       go (Cut ∷ l) cut = refl
 
 module _ (s : List ℕ) (at t start end : ℕ) (k : Stands s at t start end) where
-  pub trades-found : (long : Bool) (p : Fen) (sum : ℕ) (gain : ℤ) (o : Order) →
-      tradesFrom long p at sum gain o (fieldsOf (drop at s))
+  pub trades-found : (x : ℕ) (long : Bool) (p : Fen) (sum : ℕ) (gain : ℤ) (o : Order) →
+      tradesFrom x long p at sum gain o (fieldsOf (drop at s))
       ≡ cond (is "C" t || is "Z" t) (Closed at sum gain (o .kept))
       (cond (is "B" t || is "A" t)
-      (opening at (openingOf (is "B" t) (value s at t start end k)) λ x.
-      tradesFrom long p end (sum + lotsOn long x) (gain +ℤ gainOf long p (x .price) (lotsOn long x)) (orderAfter long o x) (fieldsOf (drop end s)))
+      (opening x at (openingOf (is "B" t) (value s at t start end k)) λ u.
+      tradesFrom x long p end (sum + lotsOn long u) (gain +ℤ gainOf long p (u .price) (lotsOn long u)) (orderAfter long o u) (fieldsOf (drop end s)))
       (Refused (refusedAt refusal.misplaced at)))
-  trades-found long p sum gain o = rw (k .fields, ends s at t start end k)
+  trades-found x long p sum gain o = rw (k .fields, ends s at t start end k)

@@ -53,9 +53,9 @@ module _ (book : List ℕ) (at : ℕ) where
       go false o eb eo = rw (e, eb)
       go true Comma eb eo = rw (e, eb, eo)
       go true Malformed eb eo = rw (e, eb, eo)
-      go true (Made x) eb eo =
+      go true (Made x d) eb eo =
           let k = fields-next book at t v fs e in
-          let w = opening-within (is "B" t) v x eo in
+          let w = opening-within (is "B" t) v x d eo in
           record {
             list = rw (e, eb, eo, k .rest);
             on = omega arith;

@@ -5,6 +5,7 @@ use mathlib.Core.Path.{_≡_, refl}
 use mathlib.Core.List.{List, [], _∷_}
 use mathlib.Core.Bool.{Bool, true, false, cond, _||_}
 use lib.ListN.{length}
+use lib.Dec.{eqb}
 use lib.IntN.{ℤ, _+ℤ_}
 use Rattle.rules.specs.declared.Fen.{Fen}
 use Rattle.rules.specs.declared.Terms.{Terms}
@@ -17,6 +18,7 @@ use Rattle.rules.specs.Opening.{openingOf}
 use Rattle.rules.specs.Fields.{Field, Whole, Cut}
 use Rattle.rules.specs.Book.{Customer, opened, DueTrade, Open, traded, within}
 use Rattle.rules.specs.Standing.{gainOf}
+use Rattle.laws.specs.ByTest.{by-test}
 use Rattle.laws.specs.Figures.{opening-within}
 use Rattle.laws.specs.Gains.{lotsOn, allGain, Priced}
 use Rattle.laws.specs.Groups.{Bad, closing, groupFrom}
@@ -52,17 +54,17 @@ module _ (long : Bool) (s : Fen) (terms : Terms) (lastC : ℕ) where
 
   module _ (c : Customer) (ts : List Trade) (at : ℕ) (t : ℕ) (v : List ℕ) (fs : List Field) (plain : (is "C" t || is "Z" t) ≡ false) where
     -- a refusal, and a customer, of the fields after a trade are those of the fields with it
-    extend : (x : Trade) → (is "B" t || is "A" t) ≡ true → openingOf (is "B" t) v ≡ Made x → (r : TradesAt) →
+    extend : (x : Trade) (d : ℕ) → (is "B" t || is "A" t) ≡ true → openingOf (is "B" t) v ≡ Made x d → eqb d (terms .decimals) ≡ true → (r : TradesAt) →
         Means (traded c x) (x ∷ ts) (at + 3 + length v) fs r → Means c ts at (Whole t v ∷ fs) r
     unfolding within
-    extend x b e (Refused r) m = rw (plain, b, e) m
-    extend x b e (Closed place sum gain ordered) m =
+    extend x d b e places (Refused r) m = rw (plain, b, e, places) m
+    extend x d b e places (Closed place sum gain ordered) m =
         record {
           customer = m .customer;
           back = m .back;
           latest = m .latest;
           position = m .position;
-          reads = rw (plain, b, e) (m .reads);
+          reads = rw (plain, b, e, places) (m .reads);
           stand = rw (b, e) (m .stand);
           held = m .held;
           lots = m .lots;
@@ -72,7 +74,7 @@ module _ (long : Bool) (s : Fen) (terms : Terms) (lastC : ℕ) where
         }
 
   pub run-means : (c : Customer) (ts : List Trade) (at sum : ℕ) (gain : ℤ) (o : Order) (fs : List Field) → Adds long s c ts sum gain o →
-      Means c ts at fs (tradesFrom long s at sum gain o fs)
+      Means c ts at fs (tradesFrom (terms .decimals) long s at sum gain o fs)
   unfolding within
   run-means c ts at sum gain o [] a = refl
   run-means c ts at sum gain o (Cut ∷ fs) a = refl
@@ -82,10 +84,10 @@ module _ (long : Bool) (s : Fen) (terms : Terms) (lastC : ℕ) where
     where
       go : (p₁ p₂ : Bool) (read : Opening) → (is "C" t || is "Z" t) ≡ p₁ → (is "B" t || is "A" t) ≡ p₂ → openingOf (is "B" t) v ≡ read →
           ((x : Trade) → Adds long s (traded c x) (x ∷ ts) (sum + lotsOn long x) (gain +ℤ gainOf long s (x .price) (lotsOn long x)) (orderAfter long o x) →
-          Means (traded c x) (x ∷ ts) (at + 3 + length v) fs (tradesFrom long s (at + 3 + length v) (sum + lotsOn long x) (gain +ℤ gainOf long s (x .price) (lotsOn long x)) (orderAfter long o x) fs)) →
+          Means (traded c x) (x ∷ ts) (at + 3 + length v) fs (tradesFrom (terms .decimals) long s (at + 3 + length v) (sum + lotsOn long x) (gain +ℤ gainOf long s (x .price) (lotsOn long x)) (orderAfter long o x) fs)) →
           Means c ts at (Whole t v ∷ fs)
           (cond p₁ (Closed at sum gain (o .kept))
-          (cond p₂ (opening at read λ x. tradesFrom long s (at + 3 + length v) (sum + lotsOn long x) (gain +ℤ gainOf long s (x .price) (lotsOn long x)) (orderAfter long o x) fs)
+          (cond p₂ (opening (terms .decimals) at read λ x. tradesFrom (terms .decimals) long s (at + 3 + length v) (sum + lotsOn long x) (gain +ℤ gainOf long s (x .price) (lotsOn long x)) (orderAfter long o x) fs)
           (Refused (refusedAt refusal.misplaced at))))
       go true p₂ read e b m ih =
           record {
@@ -104,7 +106,9 @@ module _ (long : Bool) (s : Fen) (terms : Terms) (lastC : ℕ) where
       go false false read e b m ih = rw (e, b)
       go false true Comma e b m ih = rw (e, b, m)
       go false true Malformed e b m ih = rw (e, b, m)
-      go false true (Made x) e b m ih =
-          let w = opening-within (is "B" t) v x m in
-          let r = tradesFrom long s (at + 3 + length v) (sum + lotsOn long x) (gain +ℤ gainOf long s (x .price) (lotsOn long x)) (orderAfter long o x) fs in
-          extend c ts at t v fs e x b m r (ih x (adds-more long s c ts sum gain o x (w .price-most) (w .lots-most) a))
+      go false true (Made x d) e b m ih =
+          let w = opening-within (is "B" t) v x d m in
+          let r = tradesFrom (terms .decimals) long s (at + 3 + length v) (sum + lotsOn long x) (gain +ℤ gainOf long s (x .price) (lotsOn long x)) (orderAfter long o x) fs in
+          by-test (eqb d (terms .decimals))
+          (λ places. rw places (extend c ts at t v fs e x d b m places r (ih x (adds-more long s c ts sum gain o x (w .price-most) (w .lots-most) a))))
+          (λ places. rw places (rw (e, b, m, places)))

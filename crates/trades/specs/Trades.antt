@@ -4,7 +4,7 @@ use Prim.Native.Nat.{ℕ, _+_}
 use mathlib.Core.List.{List, [], _∷_}
 use mathlib.Core.Bool.{Bool, true, cond, _&&_, _||_}
 use lib.ListN.{length}
-use lib.Dec.{leb}
+use lib.Dec.{leb, eqb}
 use lib.IntN.{ℤ, _+ℤ_}
 use Rattle.rules.specs.declared.Fen.{Fen}
 use Rattle.rules.specs.declared.Trade.{Trade}
@@ -22,10 +22,11 @@ use Rattle.trades.specs.declared.TradesAt.{TradesAt}
 use Rattle.trades.specs.declared.TradesAt.the-variants.{Closed, Refused}
 use Rattle.fields.specs.Reading.{refusedAt}
 
-abbrev pub opening : ℕ → Opening → (Trade → TradesAt) → TradesAt
-opening at (Made t) k = k t
-opening at Comma k = Refused (refusedAt refusal.comma at)
-opening at Malformed k = Refused (refusedAt refusal.malformed at)
+-- a trade whose price has x decimals
+abbrev pub opening : ℕ → ℕ → Opening → (Trade → TradesAt) → TradesAt
+opening x at (Made t d) k = cond (eqb d x) (k t) (Refused (refusedAt refusal.malformed at))
+opening x at Comma k = Refused (refusedAt refusal.comma at)
+opening x at Malformed k = Refused (refusedAt refusal.malformed at)
 
 -- no trade on the side yet
 abbrev pub noneYet : Order
@@ -34,13 +35,13 @@ noneYet = record { last = 0; kept = true }
 abbrev pub orderAfter : Bool → Order → Trade → Order
 orderAfter long o t = cond (onSide long t) (record { last = t .stamp .0; kept = o .kept && leb (o .last) (t .stamp .0) }) o
 
-module _ (long : Bool) (s : Fen) where
+module _ (x : ℕ) (long : Bool) (s : Fen) where
   abbrev pub tradesFrom : ℕ → ℕ → ℤ → Order → List Field → TradesAt
   tradesFrom at opened gain o [] = Refused (refusedAt refusal.cutShort at)
   tradesFrom at opened gain o (Cut ∷ fs) = Refused (refusedAt refusal.cutShort at)
   tradesFrom at opened gain o (Whole t v ∷ fs) =
       cond (is "C" t || is "Z" t) (Closed at opened gain (o .kept))
       (cond (is "B" t || is "A" t)
-      (opening at (openingOf (is "B" t) v) λ x.
-      tradesFrom (at + 3 + length v) (opened + lotsOn long x) (gain +ℤ gainOf long s (x .price) (lotsOn long x)) (orderAfter long o x) fs)
+      (opening x at (openingOf (is "B" t) v) λ u.
+      tradesFrom (at + 3 + length v) (opened + lotsOn long u) (gain +ℤ gainOf long s (u .price) (lotsOn long u)) (orderAfter long o u) fs)
       (Refused (refusedAt refusal.misplaced at)))

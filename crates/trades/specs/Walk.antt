@@ -22,7 +22,7 @@ use Rattle.trades.specs.declared.Next.{Next}
 use Rattle.trades.specs.declared.Next.the-variants.{At, End}
 
 abbrev pub made : Opening → (Trade → List Trade) → List Trade
-made (Made t) k = k t
+made (Made t d) k = k t
 made Comma k = []
 made Malformed k = []
 
@@ -58,7 +58,7 @@ newestIn long s need book first = newestOf long s need (fieldsOf (drop first boo
 
 -- the trade that the fields begin with, and where it ends
 abbrev pub nextOf : Opening → ℕ → Next
-nextOf (Made t) end = At t end
+nextOf (Made t d) end = At t end
 nextOf Comma end = End
 nextOf Malformed end = End
 

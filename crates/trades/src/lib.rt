@@ -94,10 +94,16 @@ fn is_closing(tag: u8) -> bool
 }
 
 // All trades of a group from a place on, up to the field that closes it: their lots on a side, the gain of these, and whether they come in
-// order.
-pub fn read_trades(book: &[u8], settlement: Fen, long: bool, first: usize) -> TradesAt
+// order. Their prices have so many decimals.
+pub fn read_trades(
+    book: &[u8],
+    decimals: usize,
+    settlement: Fen,
+    long: bool,
+    first: usize,
+) -> TradesAt
     requires { ⌜ Short (now book) ⌝ ∗ ⌜ settlement .0 ≤ 9_999_999 ⌝ }
-    ensures { λ r. ⌜ r ≡ tradesFrom long settlement first 0 (pos 0) noneYet (fieldsOf (drop first (now (book .entry)))) ⌝ }
+    ensures { λ r. ⌜ r ≡ tradesFrom decimals long settlement first 0 (pos 0) noneYet (fieldsOf (drop first (now (book .entry)))) ⌝ }
 {
     let mut at = first;
     let mut opened: u64 = 0;
@@ -122,7 +128,13 @@ pub fn read_trades(book: &[u8], settlement: Fen, long: bool, first: usize) -> Tr
             return no_trades(refusal::MISPLACED, at);
         }
         match figures::read_opening(&book[start..end], tag == tag::B) {
-            Opening::Made(t) => {
+            Opening::Made {
+                trade: t,
+                decimals: written,
+            } => {
+                if written != decimals {
+                    return no_trades(refusal::MALFORMED, at);
+                }
                 let n = lots_on(long, t);
                 gain += gain::gain_of(long, settlement, t.price, n);
                 opened += n;

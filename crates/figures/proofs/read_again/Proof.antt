@@ -6,6 +6,7 @@ use mathlib.Core.Path.{_≡_, sym, ap, _∙_}
 use mathlib.Core.List.{List}
 use lib.ListN.{length, take, drop, length-drop}
 use lib.Seq.{length-take-le}
+use Rattle.rules.specs.declared.Trade.{Trade}
 use Rattle.rules.specs.declared.Opening.the-variants.{Made}
 use Rattle.figures.specs.Good.{tradeOf}
 use Rattle.figures.specs.Stamps.{stampIn}
@@ -34,7 +35,7 @@ slice-aggregate-pair-again : tie.Need-slice-aggregate-pair-again
 slice-aggregate-pair-again c = sym (length-take-le (cut (c .before)) (value (c .before)) (omega arith))
 
 pair-again-requires : tie.Need-pair-again-requires
-pair-again-requires c κs = let p = parts (c .before) in (p .price, (p .lots, p .pair))
+pair-again-requires c κs = let p = parts (c .before) in record { price = p .price; places = p .places; lots = p .lots; read = p .pair }
 
 sub-stamp-again : tie.Need-sub-stamp-again
 sub-stamp-again c = search needs
@@ -63,7 +64,8 @@ returns c =
     let bought = k .before .args .bought in
     let pair = e .before .before .pair-again in
     let trade : c .trade-of .result ≡ tradeOf bought (pair .result .price) (pair .result .lots) (e .stamp-again .result) = c .trade-of .ensures in
-    all-read bought (value k) (cut k) _ _ _ (parts k .room) (pair .ensures) (last k ∙ e .stamp-again .ensures) ∙ ap Made (sym trade)
+    let places = pair .ensures .0 in
+    (places, all-read bought (value k) (cut k) _ places _ _ (parts k .room) (pair .ensures .1) (last k ∙ e .stamp-again .ensures) ∙ ap (λ (t : Trade). Made t places) (sym trade))
 
 pub read-again-spec : {M : Type 1} → statement M
 read-again-spec =

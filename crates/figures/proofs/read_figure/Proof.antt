@@ -1,56 +1,66 @@
--- `figures::read_figure` meets its contract: `by-number` says what the figure is by its number and by a comma.
+-- `figures::read_figure` meets its contract: `asked` of what is written, a number or why there is none.
 -- Assumes nothing.
-use mathlib.Core.Path.{_≡_, sym, ap, _∙_}
-use Rattle.rules.specs.Figures.{figureOf, has}
-use Rattle.figures.specs.declared.number.Digits.{Digits}
-use Rattle.figures.specs.declared.number.Digits.the-variants.{Number, Other}
-use Rattle.figures.proofs.Figures.{figureBy, by-number}
 use borrow.Author.Needs.{needs}
+use Prim.Native.Nat.{ℕ}
+use native.Mathlib.Omega.{arith}
+use mathlib.Core.Path.{_≡_, refl, sym, ap, _∙_}
+use mathlib.Core.Logic.{inl, inr}
+use mathlib.Core.List.{List, [], _∷_}
+use types.Run.{OneOf}
+use denote.Enum.Declared.{tagOf}
+use Rattle.rules.proofs.Written.{the-type}
+use Rattle.rules.specs.declared.Form.{Form}
+use Rattle.rules.specs.declared.Written.{Written}
+use Rattle.rules.specs.declared.Written.the-variants.{Number, Comma, Malformed}
+use Rattle.rules.specs.Figures.{writtenOf, asked, figureOf}
+use Rattle.figures.specs.Numbers.{refusedAs}
 use Rattle.figures.proofs.read_figure.Statement.{statement}
 use Rattle.figures.proofs.read_figure.Tie as tie
 
--- what the number says
-number-read :
-    (c : tie.After-read-number) (d : Digits) → c .read-number .result ≡ d →
-    let a = c .before .before .args in
-    figureOf (a .form) (a .v .now) ≡ figureBy (has "," (a .v .now)) d
-number-read c d h =
-    let a = c .before .before .args in
-    by-number (a .form) (a .v .now) ∙ ap (figureBy (has "," (a .v .now))) (sym (c .read-number .ensures) ∙ h)
+asked-by : (form : Form) (v : List ℕ) (w : Written) → w ≡ writtenOf v → figureOf form v ≡ asked form w
+unfolding figureOf
+asked-by form v w e = ap (asked form) (sym e)
 
-read-number-requires : tie.Need-read-number-requires
-read-number-requires c κs = search needs
+-- the second and the third variant
+refused-as : (form : Form) (w : Written) → OneOf (1 ∷ 2 ∷ []) (tagOf the-type w) → asked form w ≡ refusedAs w
+refused-as form (Number n d) (inl e) = let z : _≡_ {A = ℕ} 0 1 = e in absurd (omega arith)
+refused-as form (Number n d) (inr e) = let z : _≡_ {A = ℕ} 0 2 = e in absurd (omega arith)
+refused-as form Comma h = refl
+refused-as form Malformed h = refl
 
-enum-known-n : tie.Need-enum-known-n
-enum-known-n c = search needs
+read-written-requires : tie.Need-read-written-requires
+read-written-requires c κs = search needs
 
-enum-told : tie.Need-enum-told
-enum-told c = search needs
+enum-known-written : tie.Need-enum-known-written
+enum-known-written c = search needs
 
-has-comma-requires : tie.Need-has-comma-requires
-has-comma-requires c κs = search needs
+refused-requires : tie.Need-refused-requires
+refused-requires c κs = search needs
 
 returns : tie.Need-returns
 returns c =
-    let k = c .before .before in
-    sym (number-read (k .before .before) Other (k .enum-told .given .1) ∙ simp (sym (c .before .has-comma .ensures) ∙ c .if1 .taken))
+    let r = c .before .before in
+    let a = r .before .before .args in
+    c .refused .ensures
+    ∙ sym (asked-by (a .form) (a .v .now) (r .read-written .result) (r .read-written .ensures) ∙ refused-as (a .form) (r .read-written .result) (c .before .match .keys2))
+
+allowed-requires : tie.Need-allowed-requires
+allowed-requires c κs = search needs
 
 returns-2 : tie.Need-returns-2
 returns-2 c =
-    let k = c .before .before in
-    sym (number-read (k .before .before) Other (k .enum-told .given .1) ∙ simp (sym (c .before .has-comma .ensures) ∙ c .if1 .left))
-
-returns-3 : tie.Need-returns-3
-returns-3 c = sym (number-read (c .before .before .before) (Number _) (c .before .n .given .1))
+    let r = c .before .before .before .before in
+    let a = r .before .before .args in
+    c .allowed .ensures
+    ∙ sym (asked-by (a .form) (a .v .now) (r .read-written .result) (r .read-written .ensures) ∙ ap (asked (a .form)) (c .before .before .written .given .1))
 
 pub read-figure-spec : {M : Type 1} → statement M
 read-figure-spec =
     tie.close
     (tie.spec
-    read-number-requires
-    enum-known-n
-    enum-told
-    has-comma-requires
+    read-written-requires
+    enum-known-written
+    refused-requires
     returns
-    returns-2
-    returns-3)
+    allowed-requires
+    returns-2)

@@ -6,6 +6,7 @@ use mathlib.Core.Path.{_≡_, sym, ap, _∙_}
 use mathlib.Core.List.{List}
 use lib.ListN.{length, take, drop}
 use lib.Seq.{length-take-le}
+use Rattle.rules.specs.declared.Trade.{Trade}
 use Rattle.rules.specs.declared.Opening.the-variants.{Made}
 use Rattle.figures.specs.declared.number.Digits.{Digits}
 use Rattle.figures.specs.declared.number.Digits.the-variants.{Number, Other}
@@ -117,11 +118,11 @@ returns-4 c =
     let e = at-pair r in
     let bought = e .before .before .args .bought in
     let both = k .price .given .0 in
-    let trade : c .trade-of .result ≡ tradeOf bought (both .0) (both .1 .0) (m .made .given .0 .0) = c .trade-of .ensures in
-    sym (all-read bought (value e) (cut e) _ _ _ (room e)
-    (pair-read r (Both _ _) (k .price .given .1))
+    let trade : c .trade-of .result ≡ tradeOf bought (both .0) (both .1 .1 .0) (m .made .given .0 .0) = c .trade-of .ensures in
+    sym (all-read bought (value e) (cut e) _ _ _ _ (room e)
+    (pair-read r (Both _ _ _) (k .price .given .1))
     (stamp-read (m .before .before) (Number _) (m .made .given .1))
-    ∙ ap Made (sym trade))
+    ∙ ap (λ (t : Trade). Made t (both .1 .0)) (sym trade))
 
 pub read-opening-spec : {M : Type 1} → statement M
 read-opening-spec =

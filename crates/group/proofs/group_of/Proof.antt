@@ -33,7 +33,7 @@ module _ (c : tie.After-read-trades) where
   summed-is : summed (start .args .terms) (start .args .position) (start .args .place) (start .args .first) fields ≡ c .read-trades .result
   summed-is =
       sym (c .read-trades .ensures
-      ∙ ap (λ (b : Bool). tradesFrom b (start .args .terms .settlement) (start .args .first) 0 (pos 0) noneYet fields) (c .before .net-long .ensures))
+      ∙ ap (λ (b : Bool). tradesFrom (start .args .terms .decimals) b (start .args .terms .settlement) (start .args .first) 0 (pos 0) noneYet fields) (c .before .net-long .ensures))
 
 -- they end the group
 module _ (c : tie.After-at) where

@@ -26,17 +26,17 @@ module _ (s : tie.Start) where
   abbrev fields : List Field
   fields = fieldsOf (drop (s .args .first) (s .args .book .now))
 
-  abbrev sums : Summed (s .args .long) (s .args .settlement) (s .args .book .now) (s .args .first) (s .args .need) (s .args .opened) (s .args .gain) (s .args .ordered)
+  abbrev sums : Summed (s .args .decimals) (s .args .long) (s .args .settlement) (s .args .book .now) (s .args .first) (s .args .need) (s .args .opened) (s .args .gain) (s .args .ordered)
   sums = s .pre .1 .1
 
   abbrev owed : ℤ
   owed = newestIn (s .args .long) (s .args .settlement) (s .args .need) (s .args .book .now) (s .args .first)
 
   size : natAbs owed ≤ 9999999 * s .args .need
-  size = newest-most (s .args .long) (s .args .settlement) (s .args .first) fields (sums .place) (s .args .opened) (s .args .gain) (s .args .ordered) (sums .reads) (s .pre .1 .0) (s .args .need)
+  size = newest-most (s .args .decimals) (s .args .long) (s .args .settlement) (s .args .first) fields (sums .place) (s .args .opened) (s .args .gain) (s .args .ordered) (sums .reads) (s .pre .1 .0) (s .args .need)
 
   readable : Readable (s .args .book .now) (s .args .first)
-  readable = all-good (s .args .long) (s .args .settlement) (s .args .first) fields (sums .place) (s .args .opened) (s .args .gain) (s .args .ordered) (sums .reads)
+  readable = all-good (s .args .decimals) (s .args .long) (s .args .settlement) (s .args .first) fields (sums .place) (s .args .opened) (s .args .gain) (s .args .ordered) (sums .reads)
 
 -- the oldest lots are gone over
 module _ (c : tie.After-oldest-gain) where
@@ -48,7 +48,7 @@ module _ (c : tie.After-oldest-gain) where
       let a = start .args in
       let r = sums start in
       ap (λ (z : ℤ). a .gain -ℤ z) (c .oldest-gain .ensures)
-      ∙ newest-left (a .long) (a .settlement) (a .first) (fields start) (r .place) (a .opened) (a .gain) (a .ordered) (r .reads) (c .before .if3 .taken) (a .need) (r .covers)
+      ∙ newest-left (a .decimals) (a .long) (a .settlement) (a .first) (fields start) (r .place) (a .opened) (a .gain) (a .ordered) (r .reads) (c .before .if3 .taken) (a .need) (r .covers)
 
   gain-fits : SFits w64 (start .args .gain)
   gain-fits = search needs
@@ -74,7 +74,7 @@ returns-2 c =
     let r = sums s in
     let all : a .opened ≡ a .need = omega arith in
     let fits : SFits w64 (a .gain) = search needs in
-    of-int (a .gain) fits .num ∙ all-newest (a .long) (a .settlement) (a .first) (fields s) (r .place) (a .opened) (a .gain) (a .ordered) (r .reads)
+    of-int (a .gain) fits .num ∙ all-newest (a .decimals) (a .long) (a .settlement) (a .first) (fields s) (r .place) (a .opened) (a .gain) (a .ordered) (r .reads)
     ∙ ap (λ (n : ℕ). newestIn (a .long) (a .settlement) n (a .book .now) (a .first)) all
 
 sub-oldest-gain : tie.Need-sub-oldest-gain
@@ -94,7 +94,7 @@ newest-gain-requires c κs =
     let s = c .before .before .before .before in
     let a = s .args in
     let r = sums s in
-    let covered : Covered (a .long) (a .book .now) (a .first) (a .need) (a .opened) = record { has = lots-are (a .long) (a .settlement) (a .first) (fields s) (r .place) (a .opened) (a .gain) (a .ordered) (r .reads); enough = r .covers } in
+    let covered : Covered (a .long) (a .book .now) (a .first) (a .need) (a .opened) = record { has = lots-are (a .decimals) (a .long) (a .settlement) (a .first) (fields s) (r .place) (a .opened) (a .gain) (a .ordered) (r .reads); enough = r .covers } in
     (s .pre .0, (s .pre .1 .0, (record { covered = covered; some = omega arith }, readable s)))
 
 returns-4 : tie.Need-returns-4

@@ -13,7 +13,7 @@ use Rattle.reasons.proofs.field_at.Tie as tie
 inside : (book : List ℕ) (place : ℕ) → place < length book → fieldAt book place ≡ placeIn (getD book place 0) tags
 inside book place h = rw (lt-ltb place (length book) h)
 
-behind : (book : List ℕ) (place : ℕ) → length book ≤ place → fieldAt book place ≡ 13
+behind : (book : List ℕ) (place : ℕ) → length book ≤ place → fieldAt book place ≡ 14
 behind book place h = rw (le-ltb place (length book) h)
 
 shared-slice-read-place-in : tie.Need-shared-slice-read-place-in
@@ -28,7 +28,8 @@ place-in-requires c κs = search needs
 returns : tie.Need-returns
 returns c =
     let a = c .before .before .before .before .before .args in
-    c .place-in .ensures ∙ sym (inside (a .book .now) (a .place) (c .before .before .before .if1 .taken))
+    let e : c .place-in .result ≡ placeIn (getD (a .book .now) (a .place) 0) tags = c .place-in .ensures in
+    e ∙ sym (inside (a .book .now) (a .place) (c .before .before .before .if1 .taken))
 
 returns-2 : tie.Need-returns-2
 returns-2 c = let a = c .before .before .args in sym (behind (a .book .now) (a .place) (c .if1 .left))

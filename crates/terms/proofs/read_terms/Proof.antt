@@ -6,11 +6,11 @@ use borrow.Author.Needs.{needs}
 use Rattle.terms.proofs.read_terms.Statement.{statement}
 use Rattle.terms.proofs.read_terms.Tie as tie
 
-lock-at-requires : tie.Need-lock-at-requires
-lock-at-requires c κs = search needs
+letter-at-requires : tie.Need-letter-at-requires
+letter-at-requires c κs = search needs
 
-enum-known-down : tie.Need-enum-known-down
-enum-known-down c = search needs
+enum-known-first : tie.Need-enum-known-first
+enum-known-first c = search needs
 
 terms-after-requires : tie.Need-terms-after-requires
 terms-after-requires c κs = search needs
@@ -20,13 +20,13 @@ enum-known-r c = search needs
 
 returns : tie.Need-returns
 unfolding termsOf
-returns c = let x = c .before .before in c .terms-after .ensures ∙ simp (sym (x .before .before .lock-at .ensures) ∙ x .down .given .1)
+returns c = let x = c .before .before in c .terms-after .ensures ∙ simp (sym (x .before .before .letter-at .ensures) ∙ x .first .given .1)
 
 returns-2 : tie.Need-returns-2
 unfolding termsOf
-returns-2 c = let x = c .before in simp (sym (x .before .before .lock-at .ensures) ∙ x .r .given .1)
+returns-2 c = let x = c .before in simp (sym (x .before .before .letter-at .ensures) ∙ x .r .given .1)
 
 pub read-terms-spec : {M : Type 1} → statement M
 read-terms-spec =
     tie.close
-    (tie.spec lock-at-requires enum-known-down terms-after-requires enum-known-r returns returns-2)
+    (tie.spec letter-at-requires enum-known-first terms-after-requires enum-known-r returns returns-2)

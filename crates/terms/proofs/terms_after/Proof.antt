@@ -1,67 +1,47 @@
--- `terms::terms_after` meets its contract: the definition goes on as the code does, figure by figure, and then with the edges.
+-- `terms::terms_after` meets its contract: X, and then the other terms.
 -- Assumes nothing.
-use mathlib.Core.Path.{sym, _∙_}
+use Prim.Native.Nat.{ℕ}
+use mathlib.Core.Path.{sym, ap, _∙_}
+use Rattle.terms.specs.Terms.{afterPlaces}
 use borrow.Author.Needs.{needs}
 use Rattle.terms.proofs.terms_after.Statement.{statement}
 use Rattle.terms.proofs.terms_after.Tie as tie
 
-figure-at-requires : tie.Need-figure-at-requires
-figure-at-requires c κs = search needs
+letter-at-requires : tie.Need-letter-at-requires
+letter-at-requires c κs = search needs
 
-enum-known-s : tie.Need-enum-known-s
-enum-known-s c = search needs
+enum-known-first : tie.Need-enum-known-first
+enum-known-first c = search needs
 
-enum-told : tie.Need-enum-told
-enum-told c = search needs
+decimals-of-requires : tie.Need-decimals-of-requires
+decimals-of-requires c κs = search needs
 
-refusal-in-requires : tie.Need-refusal-in-requires
-refusal-in-requires c κs = search needs
+prices-after-requires : tie.Need-prices-after-requires
+prices-after-requires c κs = search needs
+
+enum-known-r : tie.Need-enum-known-r
+enum-known-r c = search needs
 
 returns : tie.Need-returns
 returns c =
-    let t = c .before .enum-told .given .1 in
-    simp (c .refusal-in .ensures, t, sym (c .before .before .before .figure-at .ensures) ∙ t)
-
-figure-at-requires-2 : tie.Need-figure-at-requires-2
-figure-at-requires-2 c κs = search needs
-
-enum-known-l : tie.Need-enum-known-l
-enum-known-l c = search needs
-
-enum-told-2 : tie.Need-enum-told-2
-enum-told-2 c = search needs
-
-refusal-in-requires-2 : tie.Need-refusal-in-requires-2
-refusal-in-requires-2 c κs = search needs
+    let d = c .before in
+    let x = d .before .before in
+    let a = x .before .before .before .before .args in
+    c .prices-after .ensures
+    ∙ ap (λ (n : ℕ). afterPlaces (a .book .now) (a .down) n (x .first .given .0 .1 .0)) (d .decimals-of .ensures)
+    ∙ simp (sym (x .before .before .letter-at .ensures) ∙ x .first .given .1)
 
 returns-2 : tie.Need-returns-2
-returns-2 c =
-    let xs = c .before .before .before .before .before in let es = sym (xs .before .before .figure-at .ensures) ∙ xs .s .given .1 in
-    let t = c .before .enum-told2 .given .1 in
-    simp (c .refusal-in2 .ensures, t, es, sym (c .before .before .before .figure-at2 .ensures) ∙ t)
-
-edges-after-requires : tie.Need-edges-after-requires
-edges-after-requires c κs = search needs
-
-returns-3 : tie.Need-returns-3
-returns-3 c =
-    let xl = c .before .before in let el = sym (xl .before .before .figure-at2 .ensures) ∙ xl .l .given .1 in
-    let xs = xl .before .before .before .before in let es = sym (xs .before .before .figure-at .ensures) ∙ xs .s .given .1 in
-    c .edges-after .ensures ∙ simp (es, el)
+returns-2 c = let x = c .before in simp (sym (x .before .before .letter-at .ensures) ∙ x .r .given .1)
 
 pub terms-after-spec : {M : Type 1} → statement M
 terms-after-spec =
     tie.close
     (tie.spec
-    figure-at-requires
-    enum-known-s
-    enum-told
-    refusal-in-requires
+    letter-at-requires
+    enum-known-first
+    decimals-of-requires
+    prices-after-requires
+    enum-known-r
     returns
-    figure-at-requires-2
-    enum-known-l
-    enum-told-2
-    refusal-in-requires-2
-    returns-2
-    edges-after-requires
-    returns-3)
+    returns-2)

@@ -92,7 +92,7 @@ returns-3 : tie.Need-returns-3
 returns-3 c =
     let o = c .before .before in
     let t = o .before in
-    simp (turned (t .before), a-trade t (o .if1 .left), c .read-again .ensures)
+    simp (turned (t .before), a-trade t (o .if1 .left), c .read-again .ensures .1)
 
 pub next-trade-spec : {M : Type 1} → statement M
 next-trade-spec =

@@ -2,12 +2,14 @@
 -- the lots are at most 1,000,000 for each byte passed, and the gain at most the highest price for each lot.
 -- Assumes nothing.
 use borrow.Author.Needs.{needs}
+use borrow.Author.Tests.{eq-eqb, ne-eqb}
 use Prim.Native.Nat.{ℕ, _+_, _-_, _*_, _≤_}
 use native.Mathlib.Omega.{arith}
 use mathlib.Core.Path.{_≡_, refl, sym, ap, _∙_}
 use mathlib.Core.List.{List}
 use mathlib.Core.Bool.{cond, _||_}
 use lib.ListN.{length, take, drop}
+use lib.Dec.{eqb}
 use lib.IntN.{ℤ, pos, natAbs, _+ℤ_}
 use mir.Val.{toZ}
 use mir.Syntax.{w64}
@@ -31,12 +33,12 @@ use Rattle.trades.proofs.read_trades.Statement.{statement}
 use Rattle.trades.proofs.read_trades.Tie as tie
 
 abbrev Inv-loop : tie.InvT-loop
-Inv-loop book settlement long first at₀ opened₀ gain₀ order₀ at opened gain order =
+Inv-loop book decimals settlement long first at₀ opened₀ gain₀ order₀ at opened gain order =
     (opened ≤ at * 1000000) × (natAbs (toZ w64 gain) ≤ 9999999 * opened)
-    × (tradesFrom long settlement first 0 (pos 0) noneYet (fieldsOf (drop first book)) ≡ tradesFrom long settlement at opened (toZ w64 gain) order (fieldsOf (drop at book)))
+    × (tradesFrom decimals long settlement first 0 (pos 0) noneYet (fieldsOf (drop first book)) ≡ tradesFrom decimals long settlement at opened (toZ w64 gain) order (fieldsOf (drop at book)))
 
 abbrev μ-loop : tie.MeasureT-loop
-μ-loop book settlement long first at₀ opened₀ gain₀ order₀ at opened gain order = length book - at
+μ-loop book decimals settlement long first at₀ opened₀ gain₀ order₀ at opened gain order = length book - at
 
 -- the field of a turn
 module _ (c : tie.After-known-told Inv-loop μ-loop) where
@@ -72,55 +74,82 @@ module _ (c : tie.After-known-told Inv-loop μ-loop) where
       let a = start-of .args in
       let l = at-loop .loop in
       let gain = toZ w64 (l .gain) in
-      tradesFrom (a .long) (a .settlement) (a .first) 0 (pos 0) noneYet (fieldsOf (drop (a .first) book))
+      tradesFrom (a .decimals) (a .long) (a .settlement) (a .first) 0 (pos 0) noneYet (fieldsOf (drop (a .first) book))
       ≡ cond (is "C" tag || is "Z" tag) (Closed (l .at) (l .opened) gain (l .order .kept))
       (cond (is "B" tag || is "A" tag)
-      (opening (l .at) (openingOf (is "B" tag) (take (end - start) (drop start book))) λ x.
-      tradesFrom (a .long) (a .settlement) end (l .opened + lotsOn (a .long) x) (gain +ℤ gainOf (a .long) (a .settlement) (x .price) (lotsOn (a .long) x)) (orderAfter (a .long) (l .order) x) (fieldsOf (drop end book)))
+      (opening (a .decimals) (l .at) (openingOf (is "B" tag) (take (end - start) (drop start book))) λ x.
+      tradesFrom (a .decimals) (a .long) (a .settlement) end (l .opened + lotsOn (a .long) x) (gain +ℤ gainOf (a .long) (a .settlement) (x .price) (lotsOn (a .long) x)) (orderAfter (a .long) (l .order) x) (fieldsOf (drop end book)))
       (Refused (refusedAt refusal.misplaced (l .at))))
   turned =
       let a = start-of .args in
       let l = at-loop .loop in
-      l .inv .2 ∙ trades-found book (l .at) tag start end there (a .long) (a .settlement) (l .opened) (toZ w64 (l .gain)) (l .order)
+      l .inv .2 ∙ trades-found book (l .at) tag start end there (a .decimals) (a .long) (a .settlement) (l .opened) (toZ w64 (l .gain)) (l .order)
 
   -- the book is short enough for the sums
   short : end ≤ 60000
   short = omega (arith, there .inside, start-of .pre .0)
 
 -- a trade that was read
-module _ (c : tie.After-lots-on Inv-loop μ-loop) where
+module _ (c : tie.After-known-told2 Inv-loop μ-loop) where
   abbrev opening-read : tie.After-read-opening Inv-loop μ-loop
-  opening-read = c .before .before .before .before
+  opening-read = c .before .before .before
+
+  abbrev field-of : tie.After-known-told Inv-loop μ-loop
+  field-of = opening-read .before .before .before .before .before .before
+
+  abbrev made-of : Trade
+  made-of = c .before .t .given .0 .0
+
+  -- the decimals of its price
+  abbrev written : ℕ
+  written = c .before .t .given .0 .1 .0
+
+  was-made : openingOf (is "B" (tag field-of)) (take (end field-of - start field-of) (drop (start field-of) (book field-of))) ≡ Made made-of written
+  was-made = sym (opening-read .read-opening .ensures) ∙ c .before .t .given .1
+
+  -- it is judged by them, and the reading goes on from its end
+  judged :
+      let a = start-of field-of .args in
+      let l = at-loop field-of .loop in
+      let n = lotsOn (a .long) made-of in
+      tradesFrom (a .decimals) (a .long) (a .settlement) (a .first) 0 (pos 0) noneYet (fieldsOf (drop (a .first) (book field-of)))
+      ≡ cond (eqb written (a .decimals))
+      (tradesFrom (a .decimals) (a .long) (a .settlement) (end field-of) (l .opened + n) (toZ w64 (l .gain) +ℤ gainOf (a .long) (a .settlement) (made-of .price) n) (orderAfter (a .long) (l .order) made-of) (fieldsOf (drop (end field-of) (book field-of))))
+      (Refused (refusedAt refusal.malformed (l .at)))
+  judged =
+      let o = opening-read .before .before in
+      let t = o .before in
+      simp (turned field-of, sym (t .before .before .is-closing .ensures) ∙ t .before .if1 .left, sym (t .is-trade .ensures) ∙ not-false _ (o .if2 .left), was-made)
+
+-- and counted
+module _ (c : tie.After-lots-on Inv-loop μ-loop) where
+  abbrev right : tie.After-known-told2 Inv-loop μ-loop
+  right = c .before .before
 
   abbrev field-read : tie.After-known-told Inv-loop μ-loop
-  field-read = opening-read .before .before .before .before .before .before
+  field-read = field-of right
 
   abbrev made : Trade
-  made = c .before .before .t .given .0 .0
-
-  is-made : openingOf (is "B" (tag field-read)) (take (end field-read - start field-read) (drop (start field-read) (book field-read))) ≡ Made made
-  is-made = sym (opening-read .read-opening .ensures) ∙ c .before .before .t .given .1
+  made = made-of right
 
   -- it is counted, and the reading goes on from its end
   counts :
       let a = start-of field-read .args in
       let l = at-loop field-read .loop in
       let n = c .lots-on .result in
-      tradesFrom (a .long) (a .settlement) (a .first) 0 (pos 0) noneYet (fieldsOf (drop (a .first) (book field-read)))
-      ≡ tradesFrom (a .long) (a .settlement) (end field-read) (l .opened + n)
+      tradesFrom (a .decimals) (a .long) (a .settlement) (a .first) 0 (pos 0) noneYet (fieldsOf (drop (a .first) (book field-read)))
+      ≡ tradesFrom (a .decimals) (a .long) (a .settlement) (end field-read) (l .opened + n)
       (toZ w64 (l .gain) +ℤ gainOf (a .long) (a .settlement) (made .price) n)
       (orderAfter (a .long) (l .order) made)
       (fieldsOf (drop (end field-read) (book field-read)))
   counts =
-      let o = opening-read .before .before in
-      let t = o .before in
       let a = start-of field-read .args in
       let l = at-loop field-read .loop in
-      simp (turned field-read, sym (t .before .before .is-closing .ensures) ∙ t .before .if1 .left, sym (t .is-trade .ensures) ∙ not-false _ (o .if2 .left), is-made)
-      (ap (λ (n : ℕ). tradesFrom (a .long) (a .settlement) (end field-read) (l .opened + n) (toZ w64 (l .gain) +ℤ gainOf (a .long) (a .settlement) (made .price) n) (orderAfter (a .long) (l .order) made) (fieldsOf (drop (end field-read) (book field-read)))) (sym (c .lots-on .ensures)))
+      simp (judged right, eq-eqb (written right) (a .decimals) (c .before .if3 .left))
+      (ap (λ (n : ℕ). tradesFrom (a .decimals) (a .long) (a .settlement) (end field-read) (l .opened + n) (toZ w64 (l .gain) +ℤ gainOf (a .long) (a .settlement) (made .price) n) (orderAfter (a .long) (l .order) made) (fieldsOf (drop (end field-read) (book field-read)))) (sym (c .lots-on .ensures)))
 
   range : OpeningWithin (is "B" (tag field-read)) made
-  range = opening-within (is "B" (tag field-read)) _ made is-made
+  range = opening-within (is "B" (tag field-read)) _ made (written right) (was-made right)
 
   few : c .lots-on .result ≤ 1000000
   few = omega (arith, c .lots-on .ensures, lots-on-most (start-of field-read .args .long) made, range .lots-most)
@@ -149,7 +178,7 @@ returns c =
     let l = f .before .loop in
     let a = f .before .before .before .args in
     c .no-trades .ensures
-    ∙ sym (l .inv .2 ∙ trades-short (l .at) (fieldsOf (drop (l .at) (a .book .now))) (sym (f .field-at .ensures) ∙ c .before .enum-told .given .1) (a .long) (a .settlement) (l .opened) (toZ w64 (l .gain)) (l .order))
+    ∙ sym (l .inv .2 ∙ trades-short (l .at) (fieldsOf (drop (l .at) (a .book .now))) (sym (f .field-at .ensures) ∙ c .before .enum-told .given .1) (a .decimals) (a .long) (a .settlement) (l .opened) (toZ w64 (l .gain)) (l .order))
 
 is-closing-requires : tie.Need-is-closing-requires Inv-loop μ-loop
 is-closing-requires c κs = search needs
@@ -181,6 +210,13 @@ read-opening-requires c κs = search needs
 enum-known-t : tie.Need-enum-known-t Inv-loop μ-loop
 enum-known-t c = search needs
 
+no-trades-requires-3 : tie.Need-no-trades-requires-3 Inv-loop μ-loop
+no-trades-requires-3 c κs = search needs
+
+-- other decimals than X says
+returns-4 : tie.Need-returns-4 Inv-loop μ-loop
+returns-4 c = let k = c .before .before in c .no-trades3 .ensures ∙ simp (judged k, ne-eqb (written k) _ (c .before .if3 .taken))
+
 lots-on-requires : tie.Need-lots-on-requires Inv-loop μ-loop
 lots-on-requires c κs = search needs
 
@@ -202,21 +238,21 @@ order-after-requires c κs = search needs
 enum-told-2 : tie.Need-enum-told-2 Inv-loop μ-loop
 enum-told-2 c = search needs
 
-no-trades-requires-3 : tie.Need-no-trades-requires-3 Inv-loop μ-loop
-no-trades-requires-3 c κs = search needs
+no-trades-requires-4 : tie.Need-no-trades-requires-4 Inv-loop μ-loop
+no-trades-requires-4 c κs = search needs
 
 -- a value that is no trade
-returns-4 : tie.Need-returns-4 Inv-loop μ-loop
-returns-4 c = let o = c .before .before .before in let t = o .before .before .before in let k = t .before .before in c .no-trades3 .ensures ∙ simp (turned (k .before), sym (k .is-closing .ensures) ∙ t .before .if1 .left, sym (t .is-trade .ensures) ∙ not-false _ (o .before .before .if2 .left), sym (o .read-opening .ensures) ∙ c .before .enum-told2 .given .1)
+returns-5 : tie.Need-returns-5 Inv-loop μ-loop
+returns-5 c = let o = c .before .before .before in let t = o .before .before .before in let k = t .before .before in c .no-trades4 .ensures ∙ simp (turned (k .before), sym (k .is-closing .ensures) ∙ t .before .if1 .left, sym (t .is-trade .ensures) ∙ not-false _ (o .before .before .if2 .left), sym (o .read-opening .ensures) ∙ c .before .enum-told2 .given .1)
 
 enum-told-3 : tie.Need-enum-told-3 Inv-loop μ-loop
 enum-told-3 c = search needs
 
-no-trades-requires-4 : tie.Need-no-trades-requires-4 Inv-loop μ-loop
-no-trades-requires-4 c κs = search needs
+no-trades-requires-5 : tie.Need-no-trades-requires-5 Inv-loop μ-loop
+no-trades-requires-5 c κs = search needs
 
-returns-5 : tie.Need-returns-5 Inv-loop μ-loop
-returns-5 c = let o = c .before .before .before in let t = o .before .before .before in let k = t .before .before in c .no-trades4 .ensures ∙ simp (turned (k .before), sym (k .is-closing .ensures) ∙ t .before .if1 .left, sym (t .is-trade .ensures) ∙ not-false _ (o .before .before .if2 .left), sym (o .read-opening .ensures) ∙ c .before .enum-told3 .given .1)
+returns-6 : tie.Need-returns-6 Inv-loop μ-loop
+returns-6 c = let o = c .before .before .before in let t = o .before .before .before in let k = t .before .before in c .no-trades5 .ensures ∙ simp (turned (k .before), sym (k .is-closing .ensures) ∙ t .before .if1 .left, sym (t .is-trade .ensures) ∙ not-false _ (o .before .before .if2 .left), sym (o .read-opening .ensures) ∙ c .before .enum-told3 .given .1)
 
 loop-less : tie.Need-loop-less Inv-loop μ-loop
 loop-less c = let k = field-read (c .before .before) in omega (arith, there k .begins, there k .order, there k .inside)
@@ -233,7 +269,7 @@ loop-again c =
       omega (arith, few b, there k .begins, there k .order, l .inv .0),
       sum-size (l .gain) (g .gain-of .result) (l .opened) n (l .inv .1) (g .gain-of .ensures .size) (bounded b),
       counts b
-          ∙ (λ i. tradesFrom (a .long) (a .settlement) (end k) (l .opened + n)
+          ∙ (λ i. tradesFrom (a .decimals) (a .long) (a .settlement) (end k) (l .opened + n)
           (sym (e ∙ ap (λ (z : ℤ). toZ w64 (l .gain) +ℤ z) (g .gain-of .ensures .exact)) i)
           (sym (c .order-after .ensures) i) (fieldsOf (drop (end k) (book k)))),
     )
@@ -260,16 +296,18 @@ read-trades-spec =
     part-read-opening-end
     read-opening-requires
     enum-known-t
+    no-trades-requires-3
+    returns-4
     lots-on-requires
     gain-of-requires
     add-gain
     add-opened
     order-after-requires
     enum-told-2
-    no-trades-requires-3
-    returns-4
-    enum-told-3
     no-trades-requires-4
     returns-5
+    enum-told-3
+    no-trades-requires-5
+    returns-6
     loop-less
     loop-again)

@@ -1,111 +1,100 @@
--- `figures::again::pair_again` meets its contract: `Starts` says what a pair that was read has at its start.
+-- `figures::again::pair_again` meets its contract: the price ends at the first blank, and the lots are the digits after it.
 -- Assumes nothing.
 use borrow.Author.Needs.{needs}
-use Prim.Native.Nat.{ℕ, _+_, _-_, _*_, _≤_}
+use Prim.Native.Nat.{ℕ, _+_, _-_, _<_, _≤_}
 use native.Mathlib.Omega.{arith}
-use mathlib.Core.Path.{_≡_, sym, ap, ap₂, _∙_}
+use mathlib.Core.Path.{_≡_, sym, ap, _∙_}
 use mathlib.Core.List.{List}
 use lib.ListN.{length, take, drop, length-drop}
-use Rattle.rules.specs.Figures.{allDigits}
+use Rattle.rules.specs.Opening.{upToBlank, afterBlank}
 use Rattle.figures.specs.declared.pair.Pair.the-variants.{Both}
-use Rattle.figures.specs.Numbers.{run, runNumber}
-use Rattle.figures.specs.Two.{DigitsAt, bytesAt, twoAt}
+use Rattle.figures.specs.Numbers.{runNumber}
+use Rattle.figures.specs.Pairs.{Paired}
 use Rattle.figures.proofs.Lists.{to-end}
 use Rattle.figures.proofs.Sizes.{at-most}
-use Rattle.figures.proofs.Twos.{two-most}
-use Rattle.figures.proofs.Starts.{Again, pair-again}
+use Rattle.figures.proofs.Blanks.{after-blank}
+use Rattle.figures.proofs.Figures.{front-start}
+use Rattle.figures.proofs.Pairs.{PairRead, pair-read, pair-short, pair-start}
+use Rattle.figures.proofs.Lots.{lots-read}
 use Rattle.figures.proofs.again.pair_again.Statement.{statement}
 use Rattle.figures.proofs.again.pair_again.Tie as tie
 
--- what is known of the bytes once their digits at the start were read
-abbrev value : tie.After-struct-known → List ℕ
-value c = c .before .before .before .args .v .now
+told : (v : List ℕ) (q : Paired v) → PairRead v (q .price) (q .places) (q .lots)
+told v q = pair-read v (q .price) (q .places) (q .lots) (q .read)
 
-told : (c : tie.After-struct-known) → let q = c .before .before .before .pre in Again (value c) (q .0) (q .1 .0)
-told c = pair-again (value c) _ _ (c .before .before .before .pre .1 .1)
+-- once the price was read
+module _ (c : tie.After-price-again) where
+  abbrev value : List ℕ
+  value = c .before .before .args .v .now
 
-point : (c : tie.After-struct-known) → c .before .read-run .result .size ≡ run (value c)
-point c = c .before .read-run .ensures .0
+  abbrev blank : ℕ
+  blank = c .price-again .result .blank
 
-inside : (c : tie.After-struct-known) → (run (value c) + 4 ≤ length (value c)) × (length (value c) ≤ 16)
-inside c = (told c .inside, told c .short)
+  read : Paired value
+  read = c .before .before .pre
 
-decimals : (c : tie.After-struct-known) → DigitsAt (value c) (c .before .read-run .result .size + 1)
-decimals c =
+  same : (c .price-again .result .price ≡ read .price) × (blank ≡ length (upToBlank value))
+  same =
+      let e = c .price-again .ensures in
+      let s = pair-start value (read .price) (read .places) (read .lots) (c .price-again .result .price) (e .0) blank (e .1) (told value read) in
+      (s .0, s .2)
+
+  inside : (blank < length value) × (length value ≤ 16)
+  inside = let t = told value read in (omega (arith, same .1, t .inside), pair-short value (read .price) (read .places) (read .lots) t)
+
+price-again-requires : tie.Need-price-again-requires
+price-again-requires c κs =
+    let v = c .before .args .v .now in
+    let q = c .before .pre in
+    let t = told v q in
     record {
-      inside = omega (arith, inside c .0, point c);
-      digits = ap (λ (k : ℕ). allDigits (bytesAt (value c) (k + 1))) (point c) ∙ told c .digits;
+      price = q .price;
+      places = q .places;
+      end = length (upToBlank v);
+      short = pair-short v (q .price) (q .places) (q .lots) t;
+      inside = t .inside;
+      read = front-start v (q .price) (q .places) (t .inside) (t .price);
     }
 
-read-run-requires : tie.Need-read-run-requires
-read-run-requires c κs =
-    let v = c .before .args .v .now in
-    let s = pair-again v _ _ (c .before .pre .1 .1) in
-    (omega (arith, s .short), omega (arith, at-most (19 - length v) 0 (omega arith)))
-
-mul-price : tie.Need-mul-price
-mul-price c = omega (arith, told c .small, c .before .read-run .ensures .1)
-
-add-two-of : tie.Need-add-two-of
-add-two-of c = omega (arith, inside c .0, inside c .1, point c)
-
-two-of-requires : tie.Need-two-of-requires
-two-of-requires c κs = decimals c
-
-add-price : tie.Need-add-price
-add-price c =
-    let k = c .before in
-    let few = two-most (value k) (k .before .read-run .result .size + 1) (decimals k .digits) in
-    omega (arith, told k .small, k .before .read-run .ensures .1, few, c .two-of .ensures)
-
 add-read-run : tie.Need-add-read-run
-add-read-run c = omega (arith, inside (c .before) .0, inside (c .before) .1, point (c .before))
+add-read-run c = let i = inside (c .before) in omega (arith, i .0, i .1)
 
 sub-read-run : tie.Need-sub-read-run
-sub-read-run c = omega (arith, inside (c .before) .0, point (c .before))
+sub-read-run c = omega (arith, inside (c .before) .0)
 
 part-read-run-start : tie.Need-part-read-run-start
-part-read-run-start c = omega (arith, inside (c .before) .0, point (c .before))
+part-read-run-start c = omega (arith, inside (c .before) .0)
 
 part-read-run-end : tie.Need-part-read-run-end
 part-read-run-end c = search needs
 
-read-run-requires-2 : tie.Need-read-run-requires-2
-read-run-requires-2 c κs =
+read-run-requires : tie.Need-read-run-requires
+read-run-requires c κs =
     let k = c .before .before in
     let v = value k in
-    let from = k .before .read-run .result .size + 4 in
-    let size = ap length (to-end v from) ∙ length-drop from v in
-    (omega (arith, size, inside k .1), omega (arith, at-most (19 - length (take (length v - from) (drop from v))) 0 (omega arith)))
+    let from = blank k + 1 in
+    let rest = ap length (to-end v from) ∙ length-drop from v in
+    (omega (arith, rest, inside k .1), omega (arith, at-most (19 - length (take (length v - from) (drop from v))) 0 (omega arith)))
 
 returns : tie.Need-returns
 returns c =
     let k = c .before .before .before in
     let v = value k in
-    let q = k .before .before .before .pre in
-    let size = k .before .read-run .result .size in
-    let price : q .0 ≡ k .before .read-run .result .number * 100 + c .before .before .two-of .result =
-    told k .price
-    ∙ ap₂ (λ (n i : ℕ). n * 100 + twoAt v (i + 1)) (sym (k .before .read-run .ensures .1)) (sym (point k))
-    ∙ ap (λ (n : ℕ). k .before .read-run .result .number * 100 + n) (sym (c .before .before .two-of .ensures)) in
-    let lots : q .1 .0 ≡ c .read-run2 .result .number =
-    told k .lots
-    ∙ ap (λ (i : ℕ). runNumber 0 (drop (i + 4) v)) (sym (point k))
-    ∙ sym (c .read-run2 .ensures .1 ∙ ap (runNumber 0) (to-end v (size + 4))) in
-    q .1 .1 ∙ ap₂ Both price lots
+    let q = read k in
+    let lots : c .read-run .result .number ≡ q .lots =
+    c .read-run .ensures .1
+    ∙ ap (runNumber 0) (to-end v (blank k + 1) ∙ after-blank v (blank k) (same k .1) (inside k .0))
+    ∙ lots-read (afterBlank v) (q .lots) (told v q .lots) .number in
+    (q .places, q .read ∙ ap (λ (p : ℕ). Both p (q .places) (q .lots)) (sym (same k .0)) ∙ ap (λ (n : ℕ). Both (k .price-again .result .price) (q .places) n) (sym lots))
 
 pub pair-again-spec : {M : Type 1} → statement M
 pair-again-spec =
     tie.close
     (tie.spec
-    read-run-requires
-    mul-price
-    add-two-of
-    two-of-requires
-    add-price
+    price-again-requires
     add-read-run
     sub-read-run
     part-read-run-start
     part-read-run-end
-    read-run-requires-2
+    read-run-requires
     returns)

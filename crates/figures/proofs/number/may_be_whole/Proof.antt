@@ -16,11 +16,11 @@ use Rattle.figures.proofs.number.may_be_whole.Tie as tie
 sized :
     (c : tie.Else2) →
     let s = c .before .before in
-    mayBeWhole (s .args .most) (s .args .v .now)
+    mayBeWhole (s .args .v .now)
     ≡ (not (is "0" (getD (s .args .v .now) 0 0)) || eqb (length (s .args .v .now)) 1)
 sized c =
     let v = c .before .before .args .v .now in
-    simp (le-leb 1 (length v) (omega arith), le-leb _ _ (c .if2 .left))
+    simp (le-leb 1 (length v) (omega arith), le-leb (length v) 7 (c .if2 .left))
 
 returns : tie.Need-returns
 returns c = simp (lt-leb 1 (length (c .before .args .v .now)) (omega arith))
@@ -28,7 +28,7 @@ returns c = simp (lt-leb 1 (length (c .before .args .v .now)) (omega arith))
 returns-2 : tie.Need-returns-2
 returns-2 c =
     let v = c .before .before .args .v .now in
-    simp (le-leb 1 (length v) (omega arith), lt-leb _ _ (c .if2 .taken))
+    simp (le-leb 1 (length v) (omega arith), lt-leb (length v) 7 (c .if2 .taken))
 
 shared-slice-read-if3 : tie.Need-shared-slice-read-if3
 shared-slice-read-if3 c = search needs

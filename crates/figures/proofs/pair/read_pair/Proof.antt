@@ -1,48 +1,73 @@
 -- `figures::pair::read_pair` meets its contract: what is read stands on the two sides of the first blank.
 -- Assumes nothing.
-use Prim.Native.Nat.{_+_, _-_, _<_}
+use borrow.Author.Needs.{needs}
+use Prim.Native.Nat.{ℕ, _+_, _-_, _<_}
 use native.Mathlib.Omega.{arith}
-use mathlib.Core.Path.{_≡_, sym, ap, ap₂, _∙_}
-use lib.ListN.{length, take, drop}
-use Rattle.rules.specs.Figures.{priceForm, tradedForm}
-use Rattle.rules.specs.Opening.{upToBlank}
+use mathlib.Core.Path.{_≡_, sym, ap, _∙_}
+use mathlib.Core.List.{List}
+use lib.ListN.{length, getD, take, drop, length-drop}
+use Rattle.rules.specs.declared.Written.the-variants.{Number}
+use Rattle.rules.specs.Figures.{tradedForm, writtenOf, figureOf}
+use Rattle.rules.specs.Opening.{upToBlank, afterBlank}
+use Rattle.figures.specs.declared.start.Start.the-variants.{Ends}
 use Rattle.figures.specs.declared.number.Digits.{Digits}
-use Rattle.figures.specs.declared.number.Digits.the-variants.{Number, Other}
-use Rattle.figures.specs.Numbers.{numberOf}
-use Rattle.figures.specs.Pairs.{both, pairOf}
+use Rattle.figures.specs.declared.number.Digits.the-variants.{Other}
+use Rattle.figures.specs.declared.number.Digits.the-variants.{Number as Lots}
+use Rattle.figures.specs.Starts.{startOf}
+use Rattle.figures.specs.Pairs.{lotsOf}
 use Rattle.figures.proofs.Lists.{to-end}
 use Rattle.figures.proofs.Blanks.{after-blank}
-use Rattle.figures.proofs.Fronts.{front-read}
-use Rattle.figures.proofs.Pairs.{too-long, no-price}
-use borrow.Author.Needs.{needs}
+use Rattle.figures.proofs.Figures.{at-blank, front-start, front-read}
+use Rattle.figures.proofs.Pairs.{PairRead, read-pair, no-pair, pair-short, pair-start, price-least, price-in}
+use Rattle.figures.proofs.Lots.{lots-told}
 use Rattle.figures.proofs.pair.read_pair.Statement.{statement}
 use Rattle.figures.proofs.pair.read_pair.Tie as tie
 
--- what the price says
-price-read :
-    (c : tie.After-known-told) →
-    let v = c .before .before .before .before .before .before .args .v .now in
-    let blank = c .before .price .given .0 .1 .0 in
-    (blank ≡ length (upToBlank v)) × (blank < length v) × (numberOf priceForm (upToBlank v) ≡ Number (c .before .price .given .0 .0))
-price-read c =
-    let r = c .before .before .before in
-    front-read priceForm (r .before .before .before .args .v .now) _ _ (sym (r .read-front .ensures) ∙ c .before .price .given .1)
+-- a figure stands at the start
+module _ (c : tie.After-known-told) where
+  abbrev value : List ℕ
+  value = c .before .before .before .before .before .before .args .v .now
 
--- and what the lots say
+  abbrev price : ℕ
+  price = c .before .price .given .0 .0
+
+  abbrev places : ℕ
+  places = c .before .price .given .0 .1 .0
+
+  abbrev blank : ℕ
+  blank = c .before .price .given .0 .1 .1 .0
+
+  told : startOf value ≡ Ends price places blank
+  told = sym (c .before .before .before .read-front .ensures) ∙ c .before .price .given .1
+
+  -- and so of any pair
+  same : (p d n : ℕ) → PairRead value p d n → (price ≡ p) × (places ≡ d) × (blank ≡ length (upToBlank value))
+  same p d n r = pair-start value p d n price places blank told r
+
+-- and a blank follows it
+abbrev at : tie.Else3 → tie.After-known-told
+at c = c .before .before .before
+
+front : (c : tie.Else3) → let k = at c in (blank k ≡ length (upToBlank (value k))) × (writtenOf (upToBlank (value k)) ≡ Number (price k) (places k))
+front c = let k = at c in front-read (value k) (price k) (places k) (blank k) (told k) (omega arith) (c .if3 .left)
+
+inside : (c : tie.Else3) → blank (at c) < length (value (at c))
+inside c = omega arith
+
+-- what the lots say
 lots-read :
-    (c : tie.After-read-number) (d : Digits) → c .read-number .result ≡ d →
-    let k = c .before .before in
-    pairOf (k .before .before .before .before .before .before .args .v .now) ≡ both (Number (k .before .price .given .0 .0)) d
+    (c : tie.After-read-lots) (d : Digits) → c .read-lots .result ≡ d →
+    let k = at (c .before .before .before) in
+    lotsOf (figureOf tradedForm (afterBlank (value k))) ≡ d
 lots-read c d h =
-    let k = c .before .before in
-    let v = k .before .before .before .before .before .before .args .v .now in
-    let p = price-read k in
-    let from = k .before .price .given .0 .1 .0 + 1 in
-    let read : c .read-number .result ≡ numberOf tradedForm (take (length v - from) (drop from v)) = c .read-number .ensures in
-    ap₂ both (p .2) (sym (read ∙ ap (numberOf tradedForm) (to-end v from ∙ after-blank v _ (p .0) (p .1))) ∙ h)
+    let t = c .before .before .before in
+    let v = value (at t) in
+    let from = blank (at t) + 1 in
+    let read : c .read-lots .result ≡ lotsOf (figureOf tradedForm (take (length v - from) (drop from v))) = c .read-lots .ensures in
+    sym (read ∙ ap (λ (l : List ℕ). lotsOf (figureOf tradedForm l)) (to-end v from ∙ after-blank v (blank (at t)) (front t .0) (inside t))) ∙ h
 
 returns : tie.Need-returns
-returns c = sym (too-long (c .before .before .args .v .now) (omega arith))
+returns c = let v = c .before .before .args .v .now in sym (no-pair v (λ p d n r. omega (arith, pair-short v p d n r, c .if1 .taken)))
 
 read-front-requires : tie.Need-read-front-requires
 read-front-requires c κs = search needs
@@ -55,23 +80,47 @@ enum-told c = search needs
 
 returns-2 : tie.Need-returns-2
 returns-2 c =
-    let r = c .before .before in
-    sym (no-price (r .before .before .before .args .v .now) (sym (r .read-front .ensures) ∙ c .enum-told .given .1))
+    let s = c .before .before in
+    let v = s .before .before .before .args .v .now in
+    sym (no-pair v (λ p d n r.
+    let k = sym (front-start v p d (r .inside) (r .price)) ∙ sym (s .read-front .ensures) ∙ c .enum-told .given .1 in
+    let z : _≡_ {A = ℕ} 0 1 = cc in
+    omega arith))
 
-add-read-number : tie.Need-add-read-number
-add-read-number c = omega (arith, price-read c .1)
+returns-3 : tie.Need-returns-3
+returns-3 c = let k = c .before in sym (no-pair (value k) (λ p d n r. omega (arith, same k p d n r .2, r .inside, c .if2 .taken)))
 
-sub-read-number : tie.Need-sub-read-number
-sub-read-number c = omega (arith, price-read c .1)
+shared-slice-read-if3 : tie.Need-shared-slice-read-if3
+shared-slice-read-if3 c = search needs
 
-part-read-number-start : tie.Need-part-read-number-start
-part-read-number-start c = omega (arith, price-read c .1)
+returns-4 : tie.Need-returns-4
+returns-4 c =
+    let k = c .before .before .before in
+    sym (no-pair (value k) (λ p d n r. c .if3 .taken (ap (λ (i : ℕ). getD (value k) i 0) (same k p d n r .2) ∙ at-blank (value k) (r .inside))))
 
-part-read-number-end : tie.Need-part-read-number-end
-part-read-number-end c = search needs
+returns-5 : tie.Need-returns-5
+returns-5 c =
+    let k = at (c .before) in
+    sym (no-pair (value k) (λ p d n r. omega (arith, same k p d n r .0, price-least p d (r .range), c .if4 .taken)))
 
-read-number-requires : tie.Need-read-number-requires
-read-number-requires c κs = search needs
+add-read-lots : tie.Need-add-read-lots
+add-read-lots c = omega (arith, inside (c .before))
+
+sub-read-lots : tie.Need-sub-read-lots
+sub-read-lots c = omega (arith, inside (c .before))
+
+part-read-lots-start : tie.Need-part-read-lots-start
+part-read-lots-start c = omega (arith, inside (c .before))
+
+part-read-lots-end : tie.Need-part-read-lots-end
+part-read-lots-end c = search needs
+
+read-lots-requires : tie.Need-read-lots-requires
+read-lots-requires c κs =
+    let k = at (c .before .before) in
+    let v = value k in
+    let from = blank k + 1 in
+    omega (arith, ap length (to-end v from) ∙ length-drop from v, k .before .before .before .before .if1 .left)
 
 enum-known-lots : tie.Need-enum-known-lots
 enum-known-lots c = search needs
@@ -79,11 +128,31 @@ enum-known-lots c = search needs
 enum-told-2 : tie.Need-enum-told-2
 enum-told-2 c = search needs
 
-returns-3 : tie.Need-returns-3
-returns-3 c = sym (lots-read (c .before .before) Other (c .enum-told2 .given .1))
+returns-6 : tie.Need-returns-6
+returns-6 c =
+    let f = c .before .before in
+    let k = at (f .before .before .before) in
+    let none = lots-read f Other (c .enum-told2 .given .1) in
+    sym (no-pair (value k) (λ p d n r.
+    let e = sym (ap lotsOf (r .lots)) ∙ none in
+    let z : _≡_ {A = ℕ} 0 1 = cc in
+    omega arith))
 
-returns-4 : tie.Need-returns-4
-returns-4 c = sym (lots-read (c .before .before .before) (Number _) (c .before .lots .given .1))
+returns-7 : tie.Need-returns-7
+returns-7 c =
+    let f = c .before .before .before in
+    let e = f .before .before in
+    let t = e .before in
+    let k = at t in
+    let v = value k in
+    let written = front t .1 in
+    sym (read-pair v (price k) (places k) _
+    (record {
+      inside = omega (arith, front t .0, inside t);
+      price = written;
+      range = price-in (upToBlank v) (price k) (places k) written (omega (arith, e .if4 .left));
+      lots = lots-told (figureOf tradedForm (afterBlank v)) _ (lots-read f (Lots _) (c .before .lots .given .1));
+    }))
 
 pub read-pair-spec : {M : Type 1} → statement M
 read-pair-spec =
@@ -94,12 +163,16 @@ read-pair-spec =
     enum-known-price
     enum-told
     returns-2
-    add-read-number
-    sub-read-number
-    part-read-number-start
-    part-read-number-end
-    read-number-requires
+    returns-3
+    shared-slice-read-if3
+    returns-4
+    returns-5
+    add-read-lots
+    sub-read-lots
+    part-read-lots-start
+    part-read-lots-end
+    read-lots-requires
     enum-known-lots
     enum-told-2
-    returns-3
-    returns-4)
+    returns-6
+    returns-7)
