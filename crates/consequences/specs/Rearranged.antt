@@ -76,7 +76,7 @@ abbrev pub tradesOf : List ℕ → List (List ℕ)
 tradesOf g = drop 4 (cutIn (length g) g)
 
 abbrev pub tradeIn : Opening → Trade
-tradeIn (Made t) = t
+tradeIn (Made t x) = t
 tradeIn CommaIn = record { bought = false; price = fen 0; lots = lots 0; stamp = stamp 0 }
 tradeIn NoTrade = record { bought = false; price = fen 0; lots = lots 0; stamp = stamp 0 }
 

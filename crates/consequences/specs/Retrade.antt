@@ -7,6 +7,7 @@ use mathlib.Core.List.{List, [], _∷_, map}
 use mathlib.Core.Bool.{Bool, true, false, cond, _||_}
 use native.Mathlib.Omega.{arith}
 use lib.Dec.{eqb}
+use borrow.Author.Tests.{eqb-true, eq-eqb}
 use lib.ListN.{length}
 use Rattle.rules.specs.declared.Trade.{Trade}
 use Rattle.rules.specs.declared.Opening.{Opening}
@@ -43,73 +44,77 @@ trades-other ks ls r = record { same = λ d. of-map d ks ∙ ap (map tradeAt) (r
 
 -- ---- bytes that write a trade
 
-abbrev unmade : Opening → ℕ
-unmade (Made x) = 0
-unmade CommaIn = 1
-unmade NoTrade = 1
+module _ (decimals : ℕ) where
+  abbrev unmade : Opening → ℕ
+  unmade (Made x d) = cond (eqb d decimals) 0 1
+  unmade CommaIn = 1
+  unmade NoTrade = 1
 
--- 0 where a field writes a trade, and 1 where it does not
-abbrev noTrade : Field → ℕ
-noTrade Cut = 1
-noTrade (Whole t v) = cond (is "B" t || is "A" t) (unmade (openingOf (is "B" t) v)) 1
+  -- 0 where a field writes a trade, its price with so many decimals, and 1 where it does not
+  abbrev noTrade : Field → ℕ
+  noTrade Cut = 1
+  noTrade (Whole t v) = cond (is "B" t || is "A" t) (unmade (openingOf (is "B" t) v)) 1
 
-abbrev bad : List ℕ → ℕ
-bad k = noTrade (fieldIn k)
+  abbrev bad : List ℕ → ℕ
+  bad k = noTrade (fieldIn k)
 
-writes : (t : ℕ) (v : List ℕ) → noTrade (Whole t v) ≡ 0 → Trades (Whole t v) (tradeIn (openingOf (is "B" t) v))
-writes t v = go (is "B" t || is "A" t) (openingOf (is "B" t) v)
-  where
-    go : (b : Bool) (o : Opening) → cond b (unmade o) 1 ≡ 0 → (b ≡ true) × (o ≡ Made (tradeIn o))
-    go true (Made x) e = (refl, refl)
-    go true CommaIn e = absurd (omega arith)
-    go true NoTrade e = absurd (omega arith)
-    go false o e = absurd (omega arith)
+  writes : (t : ℕ) (v : List ℕ) → noTrade (Whole t v) ≡ 0 → Trades decimals (Whole t v) (tradeIn (openingOf (is "B" t) v))
+  writes t v = go (is "B" t || is "A" t) (openingOf (is "B" t) v)
+    where
+      go : (b : Bool) (o : Opening) → cond b (unmade o) 1 ≡ 0 → (b ≡ true) × (o ≡ Made (tradeIn o) decimals)
+      go true (Made x d) e =
+          by-test (eqb d decimals)
+          (λ same. (refl, ap (Made x) (eqb-true d decimals same)))
+          (λ same. absurd (let z : _≡_ {A = ℕ} 1 0 = rw same at e in omega arith))
+      go true CommaIn e = absurd (omega arith)
+      go true NoTrade e = absurd (omega arith)
+      go false o e = absurd (omega arith)
 
-written : (t : ℕ) (v : List ℕ) (x : Trade) → Trades (Whole t v) x → (noTrade (Whole t v) ≡ 0) × (x ≡ tradeIn (openingOf (is "B" t) v))
-written t v x h = (rw (h .0, h .1), ap tradeIn (sym (h .1)))
+  written : (t : ℕ) (v : List ℕ) (x : Trade) → Trades decimals (Whole t v) x → (noTrade (Whole t v) ≡ 0) × (x ≡ tradeIn (openingOf (is "B" t) v))
+  written t v x h = (rw (h .0, h .1, eq-eqb decimals decimals refl), ap tradeIn (sym (h .1)))
 
-good : (k : List ℕ) → bad k ≡ 0 → Trades (fieldIn k) (tradeAt k)
-good [] e = absurd (omega arith)
-good (t ∷ []) e = absurd (omega arith)
-good (t ∷ a ∷ []) e = absurd (omega arith)
-good (t ∷ a ∷ b ∷ v) e = go (eqb (length v) (a * 256 + b)) e
-  where
-    go : (q : Bool) → noTrade (cond q (Whole t v) Cut) ≡ 0 → Trades (cond q (Whole t v) Cut) (tradeIn (openingOf (is "B" t) v))
-    go true e = writes t v e
-    go false e = absurd (omega arith)
+  good : (k : List ℕ) → bad k ≡ 0 → Trades decimals (fieldIn k) (tradeAt k)
+  good [] e = absurd (omega arith)
+  good (t ∷ []) e = absurd (omega arith)
+  good (t ∷ a ∷ []) e = absurd (omega arith)
+  good (t ∷ a ∷ b ∷ v) e = go (eqb (length v) (a * 256 + b)) e
+    where
+      go : (q : Bool) → noTrade (cond q (Whole t v) Cut) ≡ 0 → Trades decimals (cond q (Whole t v) Cut) (tradeIn (openingOf (is "B" t) v))
+      go true e = writes t v e
+      go false e = absurd (omega arith)
 
-good-back : (k : List ℕ) (x : Trade) → Trades (fieldIn k) x → (bad k ≡ 0) × (x ≡ tradeAt k)
-good-back [] x h = absurd h
-good-back (t ∷ []) x h = absurd h
-good-back (t ∷ a ∷ []) x h = absurd h
-good-back (t ∷ a ∷ b ∷ v) x h = go (eqb (length v) (a * 256 + b)) h
-  where
-    go : (q : Bool) → Trades (cond q (Whole t v) Cut) x → (noTrade (cond q (Whole t v) Cut) ≡ 0) × (x ≡ tradeIn (openingOf (is "B" t) v))
-    go true h = written t v x h
-    go false h = absurd h
+  good-back : (k : List ℕ) (x : Trade) → Trades decimals (fieldIn k) x → (bad k ≡ 0) × (x ≡ tradeAt k)
+  good-back [] x h = absurd h
+  good-back (t ∷ []) x h = absurd h
+  good-back (t ∷ a ∷ []) x h = absurd h
+  good-back (t ∷ a ∷ b ∷ v) x h = go (eqb (length v) (a * 256 + b)) h
+    where
+      go : (q : Bool) → Trades decimals (cond q (Whole t v) Cut) x → (noTrade (cond q (Whole t v) Cut) ≡ 0) × (x ≡ tradeIn (openingOf (is "B" t) v))
+      go true h = written t v x h
+      go false h = absurd h
 
-all-good : (ks : List (List ℕ)) → sumOf bad ks ≡ 0 → All2 Trades (map fieldIn ks) (map tradeAt ks)
-all-good [] e = tt
-all-good (k ∷ ks) e = (good k (omega arith), all-good ks (omega arith))
+  all-good : (ks : List (List ℕ)) → sumOf bad ks ≡ 0 → All2 (Trades decimals) (map fieldIn ks) (map tradeAt ks)
+  all-good [] e = tt
+  all-good (k ∷ ks) e = (good k (omega arith), all-good ks (omega arith))
 
-all-back : (ks : List (List ℕ)) (xs : List Trade) → All2 Trades (map fieldIn ks) xs → (sumOf bad ks ≡ 0) × (xs ≡ map tradeAt ks)
-all-back [] [] h = (refl, refl)
-all-back [] (x ∷ xs) h = absurd h
-all-back (k ∷ ks) [] h = absurd h
-all-back (k ∷ ks) (x ∷ xs) h =
-    let one = good-back k x (h .0) in
-    let more = all-back ks xs (h .1) in
-    (omega (arith, one .0, more .0), ap₂ (λ (y : Trade) (ys : List Trade). y ∷ ys) (one .1) (more .1))
+  all-back : (ks : List (List ℕ)) (xs : List Trade) → All2 (Trades decimals) (map fieldIn ks) xs → (sumOf bad ks ≡ 0) × (xs ≡ map tradeAt ks)
+  all-back [] [] h = (refl, refl)
+  all-back [] (x ∷ xs) h = absurd h
+  all-back (k ∷ ks) [] h = absurd h
+  all-back (k ∷ ks) (x ∷ xs) h =
+      let one = good-back k x (h .0) in
+      let more = all-back ks xs (h .1) in
+      (omega (arith, one .0, more .0), ap₂ (λ (y : Trade) (ys : List Trade). y ∷ ys) (one .1) (more .1))
 
--- the trades of a group in another order are trades, those that were there
-pub record Others (ls : List (List ℕ)) (xs : List Trade) : Type 0 where
-  pub all : All2 Trades (map fieldIn ls) (map tradeAt ls)
-  pub same : reading (map tradeAt ls) [] ≡ reading xs []
+  -- the trades of a group in another order are trades, those that were there
+  pub record Others (ls : List (List ℕ)) (xs : List Trade) : Type 0 where
+    pub all : All2 (Trades decimals) (map fieldIn ls) (map tradeAt ls)
+    pub same : reading (map tradeAt ls) [] ≡ reading xs []
 
-pub others : (ks ls : List (List ℕ)) (xs : List Trade) → All2 Trades (map fieldIn ks) xs → InOtherOrder madeAt ks ls → Others ls xs
-others ks ls xs h r =
-    let b = all-back ks xs h in
-    record {
-      all = all-good ls (sym (sum-other madeAt bad ks ls r) ∙ b .0);
-      same = sym (rearranged-held (map tradeAt ks) (map tradeAt ls) (trades-other ks ls r)) ∙ ap (λ (l : List Trade). reading l []) (sym (b .1));
-    }
+  pub others : (ks ls : List (List ℕ)) (xs : List Trade) → All2 (Trades decimals) (map fieldIn ks) xs → InOtherOrder madeAt ks ls → Others ls xs
+  others ks ls xs h r =
+      let b = all-back ks xs h in
+      record {
+        all = all-good ls (sym (sum-other madeAt bad ks ls r) ∙ b .0);
+        same = sym (rearranged-held (map tradeAt ks) (map tradeAt ls) (trades-other ks ls r)) ∙ ap (λ (l : List Trade). reading l []) (sym (b .1));
+      }

@@ -3,14 +3,19 @@
 -- Assumes nothing.
 use Prim.Native.Nat.{ℕ, _<_}
 use Prim.Native.Char.{code}
-use mathlib.Core.Path.{_≡_, refl, sym, subst, _∙_}
+use mathlib.Core.Path.{_≡_, refl, sym, ap, subst, _∙_}
 use mathlib.Core.List.{List, [], _∷_, _++_}
 use mathlib.Core.Bool.{Bool, true, false, not}
 use lib.ListN.{length}
-use lib.Dec.{leb, ltb}
-use borrow.Author.Tests.{lt-leb, ltb-false, not-false}
+use lib.Dec.{leb, ltb, eqb}
+use borrow.Author.Tests.{lt-leb, ltb-false, eqb-true, not-false}
 use native.Mathlib.Omega.{arith}
 use Rattle.rules.specs.declared.Terms.{Terms}
+use Rattle.rules.specs.declared.Trade.{Trade}
+use Rattle.rules.specs.declared.Opening.{Opening}
+use Rattle.rules.specs.declared.Opening.the-variants.{Made}
+use Rattle.rules.specs.declared.Opening.the-variants.{Comma as CommaIn}
+use Rattle.rules.specs.declared.Opening.the-variants.{Malformed as NoTrade}
 use Rattle.rules.specs.Text.{is}
 use Rattle.rules.specs.Codes.{isCode}
 use Rattle.rules.specs.Refusal as refusal
@@ -24,6 +29,7 @@ use Rattle.rules.specs.Book.{
   Next,
   must,
   refuse,
+  trade,
   Group,
   Nobody,
   Open,
@@ -55,13 +61,21 @@ abbrev pub Closes : List Customer → Group → List Customer → Type 0
 Closes cs Nobody ds = cs ≡ ds
 Closes cs (Open part c) ds = (mayEnd part ≡ true) × (uncovered c ≡ false) × (cs ++ c ∷ [] ≡ ds)
 
-must-next : {A : Type 0} (b : Bool) (r : Step A) (a : A) → must b r ≡ Next a → (b ≡ true) × (r ≡ Next a)
+pub must-next : {A : Type 0} (b : Bool) (r : Step A) (a : A) → must b r ≡ Next a → (b ≡ true) × (r ≡ Next a)
 must-next true r a e = (refl, e)
 must-next false r a e = stop-not e
 
 pub refuse-next : {A : Type 0} (n : ℕ) (b : Bool) (r : Step A) (a : A) → refuse n b r ≡ Next a → (b ≡ false) × (r ≡ Next a)
 refuse-next n true r a e = stop-not e
 refuse-next n false r a e = (refl, e)
+
+-- a trade is read with the decimals that its price must have
+pub trade-next : {A : Type 0} (x : ℕ) (o : Opening) (next : Trade → Step A) (a : A) → trade x o next ≡ Next a → (t : Trade) × (o ≡ Made t x) × (next t ≡ Next a)
+trade-next x (Made t d) next a e =
+    let r = refuse-next refusal.malformed (not (eqb d x)) (next t) a e in
+    (t, ap (Made t) (eqb-true d x (not-false (eqb d x) (r .0))), r .1)
+trade-next x CommaIn next a e = stop-not e
+trade-next x NoTrade next a e = stop-not e
 
 module _ (cs : List Customer) where
   pub closed-next : (g : Group) (next : List Customer → Step Stage) (st : Stage) → closed cs g next ≡ Next st → (ds : List Customer) × Closes cs g ds × (next ds ≡ Next st)

@@ -3,23 +3,21 @@
 use Prim.Native.Nat.{ℕ}
 use mathlib.Core.Path.{_≡_, refl, sym, ap, _∙_}
 use mathlib.Core.List.{List, [], _∷_}
-use mathlib.Core.Bool.{Bool, true, false, false≢true, _||_}
+use mathlib.Core.Bool.{true, false, false≢true, _||_}
+use borrow.Author.Tests.{eq-eqb}
 use Rattle.rules.specs.declared.Terms.{Terms}
 use Rattle.rules.specs.declared.Trade.{Trade}
-use Rattle.rules.specs.declared.Opening.{Opening}
 use Rattle.rules.specs.declared.Opening.the-variants.{Made}
-use Rattle.rules.specs.declared.Opening.the-variants.{Comma as CommaIn}
-use Rattle.rules.specs.declared.Opening.the-variants.{Malformed as NoTrade}
 use Rattle.rules.specs.Text.{is}
 use Rattle.rules.specs.Figures.{heldForm, lots}
 use Rattle.rules.specs.Opening.{openingOf}
 use Rattle.rules.specs.Fields.{Field, Whole, Cut}
-use Rattle.rules.specs.Book.{Customer, overdrawn, Step, Stop, Next, Part, DueK, DueH, DueQ, DueTrade, Group, Nobody, Open, within, mayEnd, must, trade, traded}
+use Rattle.rules.specs.Book.{Customer, overdrawn, Step, Stop, Next, Part, DueK, DueH, DueQ, DueTrade, Group, Nobody, Open, within, mayEnd, traded}
 use Rattle.laws.specs.All2.{All2}
 use Rattle.laws.specs.Keeps.{Keeps, must-keeps, refuse-keeps, figure-keeps, trade-keeps}
 use Rattle.order.specs.Trades.{reading}
-use Rattle.consequences.specs.Runs.{then, stop-not}
-use Rattle.consequences.specs.Steps.{Any}
+use Rattle.consequences.specs.Runs.{then, stop-not, then-next}
+use Rattle.consequences.specs.Steps.{Any, must-next, trade-next}
 use Rattle.consequences.specs.Described.{inside}
 
 -- which part is due after a field
@@ -45,7 +43,7 @@ next-due terms DueH c t v = must-keeps Any (DueIs DueQ) tt (is "H" t) _ (figure-
 next-due terms DueQ c t v =
     must-keeps Any (DueIs DueTrade) tt (is "Q" t) _ (figure-keeps Any (DueIs DueTrade) heldForm v _ tt tt (λ q h.
     refuse-keeps Any (DueIs DueTrade) _ (overdrawn terms (record { long = c .position .long; short = c .position .short; unfilled = lots q })) _ tt (λ e. refl)))
-next-due terms DueTrade c t v = must-keeps Any (DueIs DueTrade) tt (is "B" t || is "A" t) _ (trade-keeps Any (DueIs DueTrade) (openingOf (is "B" t) v) _ tt tt (λ x. refl))
+next-due terms DueTrade c t v = must-keeps Any (DueIs DueTrade) tt (is "B" t || is "A" t) _ (trade-keeps Any (DueIs DueTrade) (terms .decimals) (openingOf (is "B" t) v) _ tt tt (λ x. refl))
 
 next-holds : (terms : Terms) (part : Part) (c : Customer) (t : ℕ) (v : List ℕ) → mayEnd part ≡ false → Keeps Any (Holds (c .trades)) (within terms (Open part c) t v)
 unfolding within
@@ -85,28 +83,28 @@ led terms part c (Whole t v ∷ fs) last d e m n = go (within terms (Open part c
 
 -- ---- trades
 
--- a field is this trade
-abbrev pub Trades : Field → Trade → Type 0
-Trades Cut x = ⊥
-Trades (Whole t v) x = ((is "B" t || is "A" t) ≡ true) × (openingOf (is "B" t) v ≡ Made x)
+-- a field is this trade, its price with so many decimals
+abbrev pub Trades : ℕ → Field → Trade → Type 0
+Trades decimals Cut x = ⊥
+Trades decimals (Whole t v) x = ((is "B" t || is "A" t) ≡ true) × (openingOf (is "B" t) v ≡ Made x decimals)
 
 abbrev pub holding : Customer → List Trade → Customer
 holding c ts = record { code = c .code; position = c .position; trades = ts }
 
 -- the fields of trades lead on with what is read of them
-pub trades-lead : (terms : Terms) (c : Customer) (fs : List Field) (ts : List Trade) → All2 Trades fs ts →
+pub trades-lead : (terms : Terms) (c : Customer) (fs : List Field) (ts : List Trade) → All2 (Trades (terms .decimals)) fs ts →
     inside terms (Open DueTrade c) fs ≡ Next (Open DueTrade (holding c (reading ts (c .trades))))
 unfolding within
 trades-lead terms c [] [] h = refl
 trades-lead terms c [] (t ∷ ts) h = absurd h
 trades-lead terms c (f ∷ fs) [] h = absurd h
 trades-lead terms c (Cut ∷ fs) (x ∷ ts) h = absurd (h .0)
-trades-lead terms c (Whole t v ∷ fs) (x ∷ ts) h = rw (h .0 .0, h .0 .1) (trades-lead terms (traded c x) fs ts (h .1))
+trades-lead terms c (Whole t v ∷ fs) (x ∷ ts) h = rw (h .0 .0, h .0 .1, eq-eqb (terms .decimals) (terms .decimals) refl) (trades-lead terms (traded c x) fs ts (h .1))
 
 -- and fields that lead to where a group ends are trades
 pub record Read (terms : Terms) (c : Customer) (fs : List Field) (last : Part) (d : Customer) : Type 0 where
   pub trades : List Trade
-  pub all : All2 Trades fs trades
+  pub all : All2 (Trades (terms .decimals)) fs trades
   pub due : last ≡ DueTrade
   pub held : d ≡ holding c (reading trades (c .trades))
 
@@ -114,14 +112,10 @@ pub trades-read : (terms : Terms) (c : Customer) (fs : List Field) (last : Part)
 unfolding within
 trades-read terms c [] last d e = record { trades = []; all = tt; due = cc; held = cc }
 trades-read terms c (Cut ∷ fs) last d e = stop-not e
-trades-read terms c (Whole t v ∷ fs) last d e = go (is "B" t || is "A" t) refl (openingOf (is "B" t) v) refl (λ x. trades-read terms (traded c x) fs last d) e
-  where
-    go : (b : Bool) → (is "B" t || is "A" t) ≡ b → (o : Opening) → openingOf (is "B" t) v ≡ o →
-        ((x : Trade) → inside terms (Open DueTrade (traded c x)) fs ≡ Next (Open last d) → Read terms (traded c x) fs last d) →
-        then (must b (trade o λ x. Next (Open DueTrade (traded c x)))) (λ next. inside terms next fs) ≡ Next (Open last d) → Read terms c (Whole t v ∷ fs) last d
-    go false b o k ih e = stop-not e
-    go true b CommaIn k ih e = stop-not e
-    go true b NoTrade k ih e = stop-not e
-    go true b (Made x) k ih e =
-        let r = ih x e in
-        record { trades = x ∷ r .trades; all = ((b, k), r .all); due = r .due; held = r .held }
+trades-read terms c (Whole t v ∷ fs) last d e =
+    let (next, w, rest) = then-next (within terms (Open DueTrade c) t v) (λ next. inside terms next fs) (Open last d) e in
+    let (tag, o) = must-next (is "B" t || is "A" t) _ next w in
+    let (x, written, is-next) = trade-next (terms .decimals) (openingOf (is "B" t) v) (λ x. Next (Open DueTrade (traded c x))) next o in
+    let same : Open DueTrade (traded c x) ≡ next = cc in
+    let r = trades-read terms (traded c x) fs last d (ap (λ (g : Group). inside terms g fs) same ∙ rest) in
+    record { trades = x ∷ r .trades; all = ((tag, written), r .all); due = r .due; held = r .held }

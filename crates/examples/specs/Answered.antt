@@ -68,7 +68,7 @@ module _ (κs : Lfts 0) (a : Args gain.counted_pending.signature κs) (r : Lots)
 
 -- locked down, at 100 fen: a loss of 8 percent, and tiers from 16 and 4 percent
 abbrev terms : Terms
-terms = record { down = true; settlement = fen 100; loss = rate 8_000; edge1 = rate 16_000; edge2 = rate 4_000 }
+terms = record { down = true; decimals = 2; settlement = fen 100; loss = rate 8_000; edge1 = rate 16_000; edge2 = rate 4_000 }
 
 module _ (κs : Lfts 0) (a : Args gain.standing_of.signature κs) (r : Standing) (s : AtExit gain.standing_of.ended κs) (h : gain.standing_of.Reads.Learnt κs a r s) (under : a .0 ≡ terms) where
   -- with the loss held against tier 1's edge: N; with the total as it is: N

@@ -1,4 +1,5 @@
--- Wrong answers to document 01's listing: the contract of `frundavel_allot` allows none of them. Computed.
+-- Wrong answers to document 01's listing, and to books whose prices have other decimals than X says: the contract of `frundavel_allot` allows none
+-- of them. Computed.
 -- Assumes nothing.
 use Prim.Native.Nat.{ℕ, _-_}
 use Prim.Native.String.{String}
@@ -12,7 +13,7 @@ use denote.Triple.Entry.{Args}
 use denote.Triple.Clauses.{AtExit}
 use native.Mathlib.Omega.{arith}
 use Rattle.rules.specs.Text.{bytes}
-use Rattle.rules.specs.Figures.{figureOf}
+use Rattle.rules.specs.Figures.{writtenOf, figureOf}
 use Rattle.rules.specs.Stamp.{stampOf}
 use Rattle.rules.specs.Opening.{openingOf}
 use Rattle.rules.specs.Codes.{isCode}
@@ -24,7 +25,7 @@ use Rattle.rules.specs.Cascade.{lineOf, quantity, after, cascade, outcome}
 use Rattle.rules.specs.Report.{field, digits, reported, report, listing}
 use Rattle.rules.specs.Answer.{answer}
 use Rattle.cases.specs.Case.{Holds, so}
-use Rattle.cases.specs.Tables.{gold, customer, book}
+use Rattle.cases.specs.Tables.{termsWith, gold, bought, customer, book}
 use Rattle.cases.specs.Cases.{theListing}
 use Rattle.writing.specs.Written.{written-front}
 use Rattle.allotment.specs.declared.Listing.{Listing}
@@ -63,10 +64,28 @@ idle = customer "A" "0" "0" "0" []
 abbrev twice : List ℕ
 twice = book gold (idle ∷ idle ∷ [])
 
--- the listing's report, so that a wrong one differs in its one respect
+-- a customer with one lot bought at a price, and its report where it is neither
+abbrev one : List ℕ → String → List ℕ
+one tms trade = book tms (customer "A" "1" "0" "0" (bought trade ∷ []) ∷ [])
+
+abbrev neither : List ℕ
+neither = field "T" (bytes "0") ++ field "R" (bytes "0") ++ line "A" "N" "0"
+
+abbrev takes : String → List ℕ → Tried
+takes name s = tried name s (room 40) 0 0 (length neither) (neither ++ drop (length neither) (room 40))
+
+-- prices with so many decimals, and S so written
+abbrev priced : String → String → List ℕ
+priced x s = termsWith "D" x s "8.000" "8.000" "4.000"
+
+-- the right answers, so that a wrong one differs in its one respect
 pub right-allowed : Holds "the listing" (allowed (reports "the listing" right))
-unfolding answer figureOf openingOf stampOf isCode fieldsOf within step judge gainFrom totalGain standing leftOver rank shareOf share lineOf quantity after cascade outcome digits reported report
+unfolding answer writtenOf figureOf openingOf stampOf isCode fieldsOf within step judge gainFrom totalGain standing leftOver rank shareOf share lineOf quantity after cascade outcome digits reported report
 right-allowed = so
+
+pub yuan-allowed : Holds "prices in yuan" (allowed (takes "prices in yuan" (one (priced "0" "400") "440 1")))
+unfolding answer writtenOf figureOf openingOf stampOf isCode fieldsOf within step judge gainFrom totalGain standing leftOver rank shareOf share lineOf quantity after cascade outcome digits reported report
+yuan-allowed = so
 
 abbrev pub wrong : List Tried
 wrong =
@@ -79,8 +98,8 @@ wrong =
     ∷ tried "the empty book's answer" sound (room 80) 2 0 0 (room 80)
     ∷ tried "no room, where there is" sound (room 73) 11 73 0 (room 73)
     ∷ tried "a report cut to its room" sound (room 72) 0 0 72 (take 72 right)
-    ∷ tried "number and place change places" comma (room 80) 13 4 0 (room 80)
-    ∷ tried "refused, and a byte is altered" comma (room 80) 4 13 0 (0 ∷ room 79)
+    ∷ tried "number and place change places" comma (room 80) 17 4 0 (room 80)
+    ∷ tried "refused, and a byte is altered" comma (room 80) 4 17 0 (0 ∷ room 79)
     ∷ tried "a comma is passed over" comma (room 80) 0 0 73 (right ++ room 7)
     ∷ reports "all customers N" (field "T" (bytes "0") ++ field "R" (bytes "0") ++ line "W3" "N" "0" ++ line "P2" "N" "0" ++ line "W1" "N" "0" ++ line "P1" "N" "0" ++ line "W2" "N" "0")
     ∷ reports "the report begins with the second customer" (field "T" (bytes "9") ++ field "R" (bytes "1") ++ line "P2" "P" "3" ++ line "W1" "1" "3" ++ line "P1" "P" "6" ++ line "W2" "2" "5")
@@ -89,12 +108,19 @@ wrong =
     ∷ tried "every book is too long" sound (room 80) 1 0 0 (room 80)
     ∷ tried "bytes after Z are passed over" (sound ++ 0 ∷ []) (room 80) 0 0 73 (right ++ room 7)
     ∷ tried "a code given before is told as one of no form" twice (room 80) 5 (length (book gold (idle ∷ [])) - 3) 0 (room 80)
-    ∷ tried "a code given before is passed over" twice (room 40) 0 0 34 (field "T" (bytes "0") ++ field "R" (bytes "0") ++ line "A" "N" "0" ++ line "A" "N" "0" ++ room 6)
+    ∷ tried "a code given before is passed over" twice (room 40) 0 0 32 (neither ++ line "A" "N" "0" ++ room 8)
+    ∷ takes "a trade's price without decimals is taken where X is 2" (one gold "440 1")
+    ∷ takes "a trade's price with decimals is taken where X is 0" (one (priced "0" "400") "440.00 1")
+    ∷ takes "S has two decimals, whatever X says" (one (priced "0" "400.00") "440 1")
+    ∷ takes "X 1 is taken" (one (priced "1" "400.0") "440.0 1")
+    ∷ takes "a leading zero is taken where X is 0" (one (priced "0" "400") "0440 1")
     ∷ []
 
 pub contradicted : Contradicted wrong
-unfolding answer figureOf openingOf stampOf isCode fieldsOf within step judge gainFrom totalGain standing leftOver rank shareOf share lineOf quantity after cascade outcome digits reported report
-contradicted = none-given wrong (so & so & so & so & so & so & so & so & so & so & so & so & so & so & so & so & so & so & so & so & done)
+unfolding answer writtenOf figureOf openingOf stampOf isCode fieldsOf within step judge gainFrom totalGain standing leftOver rank shareOf share lineOf quantity after cascade outcome digits reported report
+contradicted = none-given wrong (
+    so & so & so & so & so & so & so & so & so & so & so & so & so & so & so & so & so & so & so & so
+    & so & so & so & so & so & done)
 
 -- What the program's `list` leaves at the front of the buffer, as many bytes as it says, is the listing: a refused book is not listed as one
 -- without customers.
@@ -105,7 +131,7 @@ module _ (κs : Lfts 2) (a : Args allotment.list.signature κs) (r : Listing) (s
       ap₂ take (h .0 .size) (h .0 .buffer ∙ written-front text (now (a .1 .0))) ∙ take-at text (drop (length text) (now (a .1 .0))) (length text) refl
 
   pub not-without-customers : now (a .0) ≡ comma → take (r .length) (now (s .1 .0)) ≡ bytes "total 0\nleft 0\n" → ⊥
-  unfolding figureOf openingOf isCode fieldsOf within step judge digits listing
+  unfolding writtenOf figureOf openingOf isCode fieldsOf within step judge digits listing
   not-without-customers book shown =
-      let refused : listing (now (a .0)) ≡ bytes "refused 4 at 13\n" = ap listing book in
+      let refused : listing (now (a .0)) ≡ bytes "refused 4 at 17\n" = ap listing book in
       absurd (omega (arith, ap length (sym shown ∙ listed ∙ refused)))

@@ -8,7 +8,7 @@ use mathlib.Core.List.{List, [], _∷_}
 use lib.ListN.{length, getD}
 use native.Mathlib.Omega.{arith}
 use Rattle.rules.specs.Text.{bytes}
-use Rattle.rules.specs.Figures.{figureOf}
+use Rattle.rules.specs.Figures.{writtenOf, figureOf}
 use Rattle.rules.specs.Stamp.{stampOf}
 use Rattle.rules.specs.Opening.{openingOf}
 use Rattle.rules.specs.Codes.{isCode}
@@ -57,11 +57,11 @@ permutes = (
 
 -- by `TradesMoved` W1 is tier 1, with all four lots
 pub tier-2 : listing (regrouped four (eachReindexed (groupsAt four three) exchanged)) ≡ bytes "total 4\nleft 0\nW2 2 1\nW1 2 3\nP1 P 4\n"
-unfolding regrouped partsOf figureOf openingOf stampOf isCode fieldsOf within step judge gainFrom totalGain standing leftOver rank shareOf share lineOf quantity after cascade outcome digits listing
+unfolding regrouped partsOf writtenOf figureOf openingOf stampOf isCode fieldsOf within step judge gainFrom totalGain standing leftOver rank shareOf share lineOf quantity after cascade outcome digits listing
 tier-2 = refl
 
 pub not-in-any-order : InAnyOrder → ⊥
-unfolding regrouped partsOf outcomeOf figureOf openingOf stampOf isCode fieldsOf within step judge gainFrom totalGain standing leftOver rank shareOf share lineOf quantity after cascade outcome
+unfolding regrouped partsOf outcomeOf writtenOf figureOf openingOf stampOf isCode fieldsOf within step judge gainFrom totalGain standing leftOver rank shareOf share lineOf quantity after cascade outcome
 not-in-any-order d =
     let k = d four 200 (trades-shown .accepted) three (trades-shown .chosen) exchanged permutes in
     let lots : _≡_ {A = ℕ} 3 4 = ap (λ (ls : List Line). getD ls 1 nobody .offset) (k .lines) in

@@ -7,7 +7,7 @@ use mathlib.Core.List.{List, [], _∷_}
 use lib.ListN.{getD, replicate}
 use native.Mathlib.Omega.{arith}
 use Rattle.rules.specs.Text.{bytes}
-use Rattle.rules.specs.Figures.{figureOf}
+use Rattle.rules.specs.Figures.{writtenOf, figureOf}
 use Rattle.rules.specs.Stamp.{stampOf}
 use Rattle.rules.specs.Opening.{openingOf}
 use Rattle.rules.specs.Codes.{isCode}
@@ -32,7 +32,7 @@ left run s entry = lent (viewed s (placesOf entry) run) (run entry)
 module _ (c : ViewCall) (places : lentTo c ≡ six) where
   module _ (book : bookOf c ≡ theListing "8.000") where
     pub listed : (c .answer .number ≡ 0) × (c .answer .place ≡ 0) × (c .answer .length ≡ 5)
-    unfolding viewed view figureOf openingOf stampOf isCode fieldsOf within step judge gainFrom totalGain standing leftOver rank shareOf share lineOf quantity after cascade outcome
+    unfolding viewed view writtenOf figureOf openingOf stampOf isCode fieldsOf within step judge gainFrom totalGain standing leftOver rank shareOf share lineOf quantity after cascade outcome
     listed = (
       of-contract c .number ∙ ap₂ (λ s e. viewed s (placesOf e) (λ v. v .standings) .number) book places,
       of-contract c .place ∙ ap₂ (λ s e. viewed s (placesOf e) (λ v. v .standings) .place) book places,
@@ -40,19 +40,19 @@ module _ (c : ViewCall) (places : lentTo c ≡ six) where
     )
 
     pub standings : leftBy c .standings ≡ bytes "3P1P2x"
-    unfolding viewed view figureOf openingOf stampOf isCode fieldsOf within step judge gainFrom totalGain standing leftOver rank shareOf share lineOf quantity after cascade outcome
+    unfolding viewed view writtenOf figureOf openingOf stampOf isCode fieldsOf within step judge gainFrom totalGain standing leftOver rank shareOf share lineOf quantity after cascade outcome
     standings = of-contract c .standings ∙ ap₂ (left (λ v. v .standings)) book places
 
     pub offered : leftBy c .offered ≡ 1 ∷ 0 ∷ 3 ∷ 0 ∷ 5 ∷ 7 ∷ []
-    unfolding viewed view figureOf openingOf stampOf isCode fieldsOf within step judge gainFrom totalGain standing leftOver rank shareOf share lineOf quantity after cascade outcome
+    unfolding viewed view writtenOf figureOf openingOf stampOf isCode fieldsOf within step judge gainFrom totalGain standing leftOver rank shareOf share lineOf quantity after cascade outcome
     offered = of-contract c .offered ∙ ap₂ (left (λ v. v .offered)) book places
 
     pub pending : leftBy c .pending ≡ 0 ∷ 4 ∷ 0 ∷ 6 ∷ 0 ∷ 7 ∷ []
-    unfolding viewed view figureOf openingOf stampOf isCode fieldsOf within step judge gainFrom totalGain standing leftOver rank shareOf share lineOf quantity after cascade outcome
+    unfolding viewed view writtenOf figureOf openingOf stampOf isCode fieldsOf within step judge gainFrom totalGain standing leftOver rank shareOf share lineOf quantity after cascade outcome
     pending = of-contract c .pending ∙ ap₂ (left (λ v. v .pending)) book places
 
     pub offsets : leftBy c .offsets ≡ 1 ∷ 3 ∷ 3 ∷ 6 ∷ 5 ∷ 7 ∷ []
-    unfolding viewed view figureOf openingOf stampOf isCode fieldsOf within step judge gainFrom totalGain standing leftOver rank shareOf share lineOf quantity after cascade outcome
+    unfolding viewed view writtenOf figureOf openingOf stampOf isCode fieldsOf within step judge gainFrom totalGain standing leftOver rank shareOf share lineOf quantity after cascade outcome
     offsets = of-contract c .offsets ∙ ap₂ (left (λ v. v .offsets)) book places
 
     -- a place at which a run is not what a wrong program leaves there
@@ -73,9 +73,9 @@ module _ (c : ViewCall) (places : lentTo c ≡ six) where
     pub not-another-order : leftBy c .standings ≡ bytes "PP123x" → ⊥
     not-another-order w = omega (arith, differs _ _ _ 0 w standings)
 
-  -- refused, with a comma in L: 4 at 13, and a run's first place is altered
+  -- refused, with a comma in L: 4 at 17, and a run's first place is altered
   pub not-altered-on-refusal : bookOf c ≡ theListing "8,000" → leftBy c .standings ≡ bytes "Nxxxxx" → ⊥
-  unfolding viewed figureOf openingOf stampOf isCode fieldsOf within step judge
+  unfolding viewed writtenOf figureOf openingOf stampOf isCode fieldsOf within step judge
   not-altered-on-refusal book w =
       let kept : leftBy c .standings ≡ bytes "xxxxxx" = of-contract c .standings ∙ ap₂ (left (λ v. v .standings)) book places in
       let e : getD (bytes "Nxxxxx") 0 0 ≡ getD (bytes "xxxxxx") 0 0 = ap (λ (l : List ℕ). getD l 0 0) (sym w ∙ kept) in
@@ -83,7 +83,7 @@ module _ (c : ViewCall) (places : lentTo c ≡ six) where
 
   -- every refusal told as 11
   pub not-told-as-no-room : bookOf c ≡ theListing "8,000" → c .answer .number ≡ 11 → ⊥
-  unfolding viewed figureOf openingOf stampOf isCode fieldsOf within step judge
+  unfolding viewed writtenOf figureOf openingOf stampOf isCode fieldsOf within step judge
   not-told-as-no-room book w =
       let told : c .answer .number ≡ 4 = of-contract c .number ∙ ap₂ (λ s e. viewed s (placesOf e) (λ v. v .standings) .number) book places in
       omega arith
@@ -94,7 +94,7 @@ five = runs (bytes "xxxxx") (replicate 5 7) (replicate 5 7) (replicate 5 7)
 
 module _ (c : ViewCall) (places : lentTo c ≡ five) (book : bookOf c ≡ theListing "8.000") where
   pub not-no-room-where-there-is : c .answer .number ≡ 11 → ⊥
-  unfolding viewed view figureOf openingOf stampOf isCode fieldsOf within step judge gainFrom totalGain standing leftOver rank shareOf share lineOf quantity after cascade outcome
+  unfolding viewed view writtenOf figureOf openingOf stampOf isCode fieldsOf within step judge gainFrom totalGain standing leftOver rank shareOf share lineOf quantity after cascade outcome
   not-no-room-where-there-is w =
       let told : c .answer .number ≡ 0 = of-contract c .number ∙ ap₂ (λ s e. viewed s (placesOf e) (λ v. v .standings) .number) book places in
       omega arith

@@ -1,21 +1,24 @@
--- Small answers that the published contracts of four leaf functions allow, where a wrong program of theirs shows no value in the prover's log: equal sides are
--- not net long, and the larger side is; a refusal is handed on as it is, and a good figure has none; each standing has its letter; "8,000" has a comma.
+-- Small answers that the published contracts of five leaf functions allow, where a wrong program of theirs shows no value in the prover's log: equal sides are
+-- not net long, and the larger side is; a refusal is handed on as it is, and a good figure has none; each standing has its letter; a figure has the decimals
+-- that are written; "8,000" has a comma.
 -- Assumes nothing.
 use Prim.Native.Nat.{ℕ}
 use Prim.Native.Char.{code}
 use mathlib.Core.Bool.{Bool, true, false}
-use mathlib.Core.Path.{_≡_, refl, _∙_, ap₂}
+use mathlib.Core.Path.{_≡_, refl, ap, ap₂, _∙_}
 use contract.Lifetimes.{Lfts}
 use denote.Ref.{now}
 use denote.Triple.Entry.{Args}
 use denote.Triple.Clauses.{AtExit}
 use Rattle.rules.specs.declared.Position.{Position}
+use Rattle.rules.specs.declared.Written.{Written}
+use Rattle.rules.specs.declared.Written.the-variants.{Number, Malformed}
 use Rattle.rules.specs.declared.Figure.{Figure}
 use Rattle.rules.specs.declared.Figure.the-variants.{Comma}
 use Rattle.rules.specs.declared.Standing.the-variants.{Pending, Tier1, Tier2, Tier3, Neither}
 use Rattle.rules.specs.Refusal as refusal
 use Rattle.rules.specs.Text.{bytes}
-use Rattle.rules.specs.Figures.{lots, rateForm, figureOf}
+use Rattle.rules.specs.Figures.{lots, rateForm, writtenOf, figureOf}
 use Rattle.fields.specs.declared.Refusal.{Refusal}
 use Rattle.fields.specs.declared.FigureAt.the-variants.{Value}
 use Rattle.fields.specs.declared.FigureAt.the-variants.{Refused as NoFigure}
@@ -39,10 +42,10 @@ module _ (κs : Lfts 0) (a : Args gain.net_long.signature κs) (r : Bool) (s : A
   smaller-is-not e = h ∙ rw e refl
 
 module _ (κs : Lfts 0) (a : Args fields.refusal_in.signature κs) (r : Refusal) (s : AtExit fields.refusal_in.ended κs) (h : fields.refusal_in.Reads.Learnt κs a r s) where
-  pub handed-on : a .0 ≡ NoFigure (refusedAt refusal.comma 13) → r ≡ refusedAt refusal.comma 13
+  pub handed-on : a .0 ≡ NoFigure (refusedAt refusal.comma 17) → r ≡ refusedAt refusal.comma 17
   handed-on e = h ∙ rw e refl
 
-  pub none-in-a-figure : a .0 ≡ Value 8_000 21 → r ≡ noRefusal
+  pub none-in-a-figure : a .0 ≡ Value 8_000 25 → r ≡ noRefusal
   none-in-a-figure e = h ∙ rw e refl
 
 module _ (κs : Lfts 0) (a : Args writing.letter_of.signature κs) (r : ℕ) (s : AtExit writing.letter_of.ended κs) (h : writing.letter_of.Reads.Learnt κs a r s) where
@@ -61,7 +64,20 @@ module _ (κs : Lfts 0) (a : Args writing.letter_of.signature κs) (r : ℕ) (s 
   pub n : a .0 ≡ Neither → r ≡ code "N"
   n e = h ∙ rw e refl
 
+module _ (κs : Lfts 1) (a : Args figures.read_written.signature κs) (r : Written) (s : AtExit figures.read_written.ended κs) (h : figures.read_written.Reads.Learnt κs a r s) where
+  pub with-decimals : now (a .0) ≡ bytes "400.00" → r ≡ Number 40_000 2
+  unfolding writtenOf
+  with-decimals e = h ∙ ap writtenOf e
+
+  pub without : now (a .0) ≡ bytes "400" → r ≡ Number 400 0
+  unfolding writtenOf
+  without e = h ∙ ap writtenOf e
+
+  pub no-leading-zero : now (a .0) ≡ bytes "0400" → r ≡ Malformed
+  unfolding writtenOf
+  no-leading-zero e = h ∙ ap writtenOf e
+
 module _ (κs : Lfts 1) (a : Args figures.read_figure.signature κs) (r : Figure) (s : AtExit figures.read_figure.ended κs) (h : figures.read_figure.Reads.Learnt κs a r s) where
   pub a-comma : now (a .0) ≡ bytes "8,000" → a .1 .0 ≡ rateForm → r ≡ Comma
-  unfolding figureOf
+  unfolding writtenOf figureOf
   a-comma e f = h ∙ ap₂ (λ v w. figureOf w v) e f

@@ -7,7 +7,7 @@ use mathlib.Core.Path.{_≡_, refl}
 use mathlib.Core.List.{List, [], _∷_, map}
 use Rattle.rules.specs.declared.Position.{Position}
 use Rattle.rules.specs.Text.{bytes}
-use Rattle.rules.specs.Figures.{figureOf}
+use Rattle.rules.specs.Figures.{writtenOf, figureOf}
 use Rattle.rules.specs.Stamp.{stampOf}
 use Rattle.rules.specs.Opening.{openingOf}
 use Rattle.rules.specs.Codes.{isCode}
@@ -50,5 +50,5 @@ pub record Worked : Type 0 where
   pub stakes : stake (code "3") (has 0) ∷ stake (code "P") (has 1) ∷ stake (code "1") (has 2) ∷ stake (code "P") (has 3) ∷ stake (code "2") (has 4) ∷ [] ≡ 1 ∷ 4 ∷ 3 ∷ 6 ∷ 5 ∷ []
 
 pub worked : Worked
-unfolding told answer report reported figureOf openingOf stampOf isCode fieldsOf within step judge gainFrom totalGain standing leftOver rank shareOf share lineOf quantity after cascade outcome digits
+unfolding told answer report reported writtenOf figureOf openingOf stampOf isCode fieldsOf within step judge gainFrom totalGain standing leftOver rank shareOf share lineOf quantity after cascade outcome digits
 worked = record { accepted = refl; tells = refl; pending-side = refl; counted = refl; gaining-side = refl; stakes = refl }

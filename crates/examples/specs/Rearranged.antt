@@ -9,7 +9,7 @@ use lib.ListN.{getD}
 use native.Mathlib.Omega.{arith}
 use Rattle.rules.specs.declared.Standing.the-variants.{Neither}
 use Rattle.rules.specs.Text.{bytes}
-use Rattle.rules.specs.Figures.{figureOf}
+use Rattle.rules.specs.Figures.{writtenOf, figureOf}
 use Rattle.rules.specs.Stamp.{stampOf}
 use Rattle.rules.specs.Opening.{openingOf}
 use Rattle.rules.specs.Codes.{isCode, same}
@@ -65,7 +65,7 @@ pub record Shown : Type 0 where
   pub after : listing (rearranged six five) ≡ bytes "total 9\nleft 1\nP1 P 6\nP2 P 3\nW3 3 1\nW1 1 3\nW2 2 5\n"
 
 six-chosen : Chosen (outcomeOf six .lines) five
-unfolding outcomeOf figureOf openingOf stampOf isCode fieldsOf within step judge gainFrom totalGain standing leftOver rank shareOf share lineOf quantity after cascade outcome
+unfolding outcomeOf writtenOf figureOf openingOf stampOf isCode fieldsOf within step judge gainFrom totalGain standing leftOver rank shareOf share lineOf quantity after cascade outcome
 six-chosen =
     record {
       below = (omega arith, (omega arith, (omega arith, (omega arith, (omega arith, tt)))));
@@ -83,7 +83,7 @@ six-chosen =
     out (suc (suc (suc (suc (suc (suc i)))))) h e = absurd (omega arith)
 
 pub six-shown : Shown
-unfolding answer report reported regrouped partsOf outcomeOf figureOf openingOf stampOf isCode fieldsOf within step judge gainFrom totalGain standing leftOver rank shareOf share lineOf quantity after cascade outcome digits listing
+unfolding answer report reported regrouped partsOf outcomeOf writtenOf figureOf openingOf stampOf isCode fieldsOf within step judge gainFrom totalGain standing leftOver rank shareOf share lineOf quantity after cascade outcome digits listing
 six-shown = record { accepted = refl; chosen = six-chosen; other = refl; before = refl; after = refl; by-row = refl; by-other-row = refl }
 
 -- and so demand 3 says

@@ -17,15 +17,16 @@ use Rattle.command.specs.declared.Seen.{Seen}
 use Rattle.command.specs.Asked.{wordOf, meantOf, stepOf, settledOf}
 
 -- the comma in document 01's listing
-pub of-the-comma : said (bytes "allot") 4 13 (fieldAt (theListing "8,000") 13) ≡ bytes "allot: refused 4 at 13: a comma in the loss edge L\n"
+pub of-the-comma : said (bytes "allot") 4 17 (fieldAt (theListing "8,000") 17) ≡ bytes "allot: refused 4 at 17: a comma in the loss edge L\n"
 unfolding digits lineOf withField reason
 of-the-comma = refl
 
 -- every field by its tag, and a byte that is none
 pub of-fields :
-    map (λ (t : ℕ). reason 2 (placeIn t tags)) (bytes "DSLUVCKHQBAZx") ≡
+    map (λ (t : ℕ). reason 2 (placeIn t tags)) (bytes "DXSLUVCKHQBAZx") ≡
     map bytes (
     "the book ends before the end of the limit D"
+    ∷ "the book ends before the end of the decimals X"
     ∷ "the book ends before the end of the settlement price S"
     ∷ "the book ends before the end of the loss edge L"
     ∷ "the book ends before the end of the tier 1 edge U"
@@ -43,9 +44,9 @@ pub of-fields :
 unfolding lineOf withField reason
 of-fields = refl
 
--- every number at the settlement price S, whose place among the tags is 1; and numbers that are none
+-- every number at the settlement price S, whose place among the tags is 2; and numbers that are none
 pub of-numbers :
-    map (λ (n : ℕ). reason n 1) (0 ∷ 1 ∷ 2 ∷ 3 ∷ 4 ∷ 5 ∷ 6 ∷ 7 ∷ 8 ∷ 9 ∷ 10 ∷ 11 ∷ 12 ∷ 4294967296 ∷ []) ≡
+    map (λ (n : ℕ). reason n 2) (0 ∷ 1 ∷ 2 ∷ 3 ∷ 4 ∷ 5 ∷ 6 ∷ 7 ∷ 8 ∷ 9 ∷ 10 ∷ 11 ∷ 12 ∷ 4294967296 ∷ []) ≡
     map bytes (
     "accepted"
     ∷ "the book has more than 60,000 bytes"
@@ -73,7 +74,7 @@ pub without-a-field :
 unfolding lineOf withField reason
 without-a-field = refl
 
-pub behind-the-end : (reason 3 (fieldAt (bytes "\n") 0) ≡ bytes "a byte that is no tag, or that follows Z") × (reason 9 13 ≡ reason 9 5)
+pub behind-the-end : (reason 3 (fieldAt (bytes "\n") 0) ≡ bytes "a byte that is no tag, or that follows Z") × (reason 9 14 ≡ reason 9 5)
 unfolding lineOf withField reason
 behind-the-end = (refl, refl)
 

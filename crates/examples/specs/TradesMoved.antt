@@ -11,7 +11,7 @@ use lib.ListN.{getD}
 use native.Mathlib.Omega.{arith}
 use Rattle.rules.specs.declared.Standing.the-variants.{Neither}
 use Rattle.rules.specs.Text.{bytes}
-use Rattle.rules.specs.Figures.{figureOf}
+use Rattle.rules.specs.Figures.{writtenOf, figureOf}
 use Rattle.rules.specs.Stamp.{stampOf}
 use Rattle.rules.specs.Opening.{openingOf}
 use Rattle.rules.specs.Codes.{isCode}
@@ -87,7 +87,7 @@ below-four P a b c d (suc (suc (suc zero))) h = d
 below-four P a b c d (suc (suc (suc (suc i)))) h = absurd (omega arith)
 
 three-chosen : Chosen (outcomeOf four .lines) three
-unfolding outcomeOf figureOf openingOf stampOf isCode fieldsOf within step judge gainFrom totalGain standing leftOver rank shareOf share lineOf quantity after cascade outcome
+unfolding outcomeOf writtenOf figureOf openingOf stampOf isCode fieldsOf within step judge gainFrom totalGain standing leftOver rank shareOf share lineOf quantity after cascade outcome
 three-chosen =
     let in-it : (i : ℕ) → among i three ≡ true → among i three ≡ false → getD (outcomeOf four .lines) i nobody .standing ≡ Neither =
     λ i e f. absurd (omega (arith, ap oneIf e, ap oneIf f)) in
@@ -98,7 +98,7 @@ three-chosen =
     }
 
 trades-in-order : All2 Reindexes (groupsAt four three) orders
-unfolding partsOf figureOf openingOf stampOf
+unfolding partsOf writtenOf figureOf openingOf stampOf
 trades-in-order = (
   as-they-stand _ 1,
   (
@@ -112,7 +112,7 @@ trades-in-order = (
 )
 
 pub trades-shown : Shown
-unfolding answer report reported regrouped partsOf outcomeOf figureOf openingOf stampOf isCode fieldsOf within step judge gainFrom totalGain standing leftOver rank shareOf share lineOf quantity after cascade outcome digits listing
+unfolding answer report reported regrouped partsOf outcomeOf writtenOf figureOf openingOf stampOf isCode fieldsOf within step judge gainFrom totalGain standing leftOver rank shareOf share lineOf quantity after cascade outcome digits listing
 trades-shown = record { accepted = refl; chosen = three-chosen; in-order = trades-in-order; is = refl; before = refl; after = refl; by-place = refl; by-other-place = refl }
 
 -- and so demand 3 says

@@ -57,6 +57,12 @@ field-at κs a = tt
 pub refusal-in : AsksNothing fields.refusal_in.ended fields.refusal_in.Reads.Asked
 refusal-in κs a = tt
 
+pub read-written : AsksNothing figures.read_written.ended figures.read_written.Reads.Asked
+read-written κs a = tt
+
+pub read-figure : AsksNothing figures.read_figure.ended figures.read_figure.Reads.Asked
+read-figure κs a = tt
+
 pub read-opening : AsksNothing figures.read_opening.ended figures.read_opening.Reads.Asked
 read-opening κs a = tt
 

@@ -5,33 +5,64 @@ use Prim.Native.Nat.{ℕ}
 use mathlib.Core.Path.{_≡_, refl}
 use mathlib.Core.Bool.{Bool, true, false, cond, not, _&&_, _||_, true≢false}
 use mathlib.Core.List.{List, [], _∷_}
+use lib.ListN.{length}
+use lib.Dec.{eqb}
 use Rattle.rules.specs.declared.Form.{Form}
 use Rattle.rules.specs.declared.Trade.{Trade}
+use Rattle.rules.specs.declared.Written.the-variants.{Number}
+use Rattle.rules.specs.declared.Written.the-variants.{Malformed as NoFigure}
 use Rattle.rules.specs.declared.Figure.the-variants.{Value, Comma, Malformed}
-use Rattle.rules.specs.declared.Opening.the-variants.{Comma as CommaIn}
+use Rattle.rules.specs.declared.Opening.the-variants.{Made}
+use Rattle.rules.specs.declared.Opening.the-variants.{Malformed as NoTrade}
 use Rattle.rules.specs.Refusal as refusal
 use Rattle.rules.specs.Text.{is, bytes}
-use Rattle.rules.specs.Figures.{numberAfter, fen, lots, priceForm, tradedForm, has, number, figureOf}
+use Rattle.rules.specs.Figures.{numberAfter, fen, lots, priceForm, tradedForm, has, behindPoint, number, isWritten, inRange, writtenOf, asked, figureOf}
 use Rattle.rules.specs.Stamp.{stamp, stampNumber, stampOf}
-use Rattle.rules.specs.Opening.{openingOf, tradeFrom, upToBlank, afterBlank}
+use Rattle.rules.specs.Opening.{openingOf, wanted, tradeFrom, upToBlank, afterBlank}
 use Rattle.rules.specs.Codes.{same}
-use Rattle.rules.specs.Book.{Step, Stop, refuse, figure, trade, lock}
+use Rattle.rules.specs.Book.{Step, Stop, refuse, figure, trade, lock, places}
+use Rattle.laws.specs.ByTest.{by-test}
 use Rattle.promises.specs.Reasons.{isFigure, isStamp, isTrade}
 
+-- a figure with a comma, and one without
+written-plain : (v : List ℕ) → has "," v ≡ false → writtenOf v ≡ cond (isWritten v) (Number (number v) (length (behindPoint v))) NoFigure
+unfolding writtenOf
+written-plain v e = rw e refl
+
+figure-comma : (form : Form) (v : List ℕ) → has "," v ≡ true → figureOf form v ≡ Comma
+unfolding figureOf writtenOf
+figure-comma form v e = rw e refl
+
+figure-plain : (form : Form) (v : List ℕ) → has "," v ≡ false → figureOf form v ≡ cond (isFigure form v) (Value (number v)) Malformed
+unfolding figureOf
+figure-plain form v e = rw (written-plain v e) (go (isWritten v))
+  where
+    go : (a : Bool) →
+        asked form (cond a (Number (number v) (length (behindPoint v))) NoFigure)
+        ≡ cond (a && eqb (length (behindPoint v)) (form .decimals) && inRange form (number v)) (Value (number v)) Malformed
+    go true = refl
+    go false = refl
+
 module _ {A : Type 0} where
-  pub figure-chain : (form : Form) (v : List ℕ) (next : ℕ → Step A) → figure (figureOf form v) next ≡ refuse refusal.comma (has "," v) (refuse refusal.malformed (not (isFigure form v)) (next (number form v)))
-  unfolding figureOf
-  figure-chain form v next = go (has "," v) (isFigure form v)
+  pub figure-chain : (form : Form) (v : List ℕ) (next : ℕ → Step A) → figure (figureOf form v) next ≡ refuse refusal.comma (has "," v) (refuse refusal.malformed (not (isFigure form v)) (next (number v)))
+  figure-chain form v next = by-test (has "," v) (λ e. rw (e, figure-comma form v e) refl) (λ e. rw (e, figure-plain form v e) (go (isFigure form v)))
     where
-      go : (a b : Bool) → figure (cond a Comma (cond b (Value (number form v)) Malformed)) next ≡ refuse refusal.comma a (refuse refusal.malformed (not b) (next (number form v)))
-      go true b = refl
-      go false true = refl
-      go false false = refl
+      go : (b : Bool) → figure (cond b (Value (number v)) Malformed) next ≡ refuse refusal.malformed (not b) (next (number v))
+      go true = refl
+      go false = refl
 
   pub lock-chain : (v : List ℕ) (next : Bool → Step A) → lock v next ≡ refuse refusal.malformed (not (same v (bytes "D") || same v (bytes "U"))) (next (same v (bytes "D")))
   lock-chain v next = go (same v (bytes "D")) (same v (bytes "U"))
     where
       go : (a b : Bool) → cond a (next true) (cond b (next false) (Stop refusal.malformed)) ≡ refuse refusal.malformed (not (a || b)) (next a)
+      go true b = refl
+      go false true = refl
+      go false false = refl
+
+  pub places-chain : (v : List ℕ) (next : ℕ → Step A) → places v next ≡ refuse refusal.malformed (not (same v (bytes "0") || same v (bytes "2"))) (next (cond (same v (bytes "0")) 0 2))
+  places-chain v next = go (same v (bytes "0")) (same v (bytes "2"))
+    where
+      go : (a b : Bool) → cond a (next 0) (cond b (next 2) (Stop refusal.malformed)) ≡ refuse refusal.malformed (not (a || b)) (next (cond a 0 2))
       go true b = refl
       go false true = refl
       go false false = refl
@@ -67,30 +98,39 @@ madeAt v = stampNumber (numberAfter 0 (upToBlank (behindLots v))) (numberAfter 0
 
 abbrev pub tradeRead : Bool → List ℕ → Trade
 tradeRead bought v =
-    record { bought = bought; price = fen (number priceForm (upToBlank v)); lots = lots (number tradedForm (upToBlank (behindPrice v))); stamp = stamp (madeAt v) }
+    record { bought = bought; price = fen (number (upToBlank v)); lots = lots (number (upToBlank (behindPrice v))); stamp = stamp (madeAt v) }
 
 module _ {A : Type 0} where
-  pub trade-chain :
-      (bought : Bool) (v : List ℕ) (next : Trade → Step A) →
-      trade (openingOf bought v) next ≡ refuse refusal.comma (has "," v) (refuse refusal.malformed (not (isTrade v)) (next (tradeRead bought v)))
-  unfolding figureOf openingOf stampOf
-  trade-chain bought v next =
-      go (has "," v) (has "," (upToBlank v)) (has "," (upToBlank (behindPrice v))) (isFigure priceForm (upToBlank v)) (isFigure tradedForm (upToBlank (behindPrice v)))
-      (isStamp (upToBlank (behindLots v)) (afterBlank (behindLots v))) (comma-before v) (λ h. comma-before (behindPrice v) (comma-after v h))
+  -- a trade by its parts: price p with d decimals, n lots and stamp m, each where it is as it should be
+  parts-chain :
+      (x : ℕ) (bought : Bool) (p d n m : ℕ) (next : Trade → Step A) (written sold stamped : Bool) →
+      trade x (tradeFrom bought (cond written (Number p d) NoFigure) (cond sold (Value n) Malformed) (cond stamped (Value m) Malformed)) next
+      ≡ refuse refusal.malformed (not (written && eqb d x && inRange (priceForm x) p && sold && stamped)) (next (record { bought = bought; price = fen p; lots = lots n; stamp = stamp m }))
+  parts-chain x bought p d n m next false sold stamped = refl
+  parts-chain x bought p d n m next true sold stamped = go (inRange (priceForm x) p) sold stamped
     where
-      go : (a b c p n d : Bool) → (a ≡ false → b ≡ false) → (a ≡ false → c ≡ false) →
-          trade (cond a CommaIn (tradeFrom bought
-          (cond b Comma (cond p (Value (number priceForm (upToBlank v))) Malformed))
-          (cond c Comma (cond n (Value (number tradedForm (upToBlank (behindPrice v)))) Malformed))
-          (cond d (Value (madeAt v)) Malformed))) next
-          ≡ refuse refusal.comma a (refuse refusal.malformed (not (p && n && d)) (next (tradeRead bought v)))
-      go true b c p n d k l = refl
-      go false true c p n d k l = absurd (true≢false (k refl))
-      go false false true p n d k l = absurd (true≢false (l refl))
-      go false false false true true true k l = refl
-      go false false false true true false k l = refl
-      go false false false true false d k l = refl
-      go false false false false n d k l = refl
+      go : (r sold stamped : Bool) →
+          trade x (cond r (wanted (cond sold (Value n) Malformed) λ l. wanted (cond stamped (Value m) Malformed) λ e.
+          Made (record { bought = bought; price = fen p; lots = lots l; stamp = stamp e }) d) NoTrade) next
+          ≡ refuse refusal.malformed (not (eqb d x && r && sold && stamped)) (next (record { bought = bought; price = fen p; lots = lots n; stamp = stamp m }))
+      go true true true = by-test (eqb d x) (λ e. rw e refl) (λ e. rw e refl)
+      go true true false = by-test (eqb d x) (λ e. rw e refl) (λ e. rw e refl)
+      go true false stamped = by-test (eqb d x) (λ e. rw e refl) (λ e. rw e refl)
+      go false sold stamped = by-test (eqb d x) (λ e. rw e refl) (λ e. rw e refl)
+
+  pub trade-chain :
+      (x : ℕ) (bought : Bool) (v : List ℕ) (next : Trade → Step A) →
+      trade x (openingOf bought v) next ≡ refuse refusal.comma (has "," v) (refuse refusal.malformed (not (isTrade x v)) (next (tradeRead bought v)))
+  unfolding openingOf stampOf
+  trade-chain x bought v next =
+      let price = upToBlank v in
+      let sold = upToBlank (behindPrice v) in
+      by-test (has "," v)
+      (λ e. rw e refl)
+      (λ e.
+      rw (e, written-plain price (comma-before v e), figure-plain tradedForm sold (comma-before (behindPrice v) (comma-after v e)))
+      (parts-chain x bought (number price) (length (behindPoint price)) (number sold) (madeAt v) next (isWritten price) (isFigure tradedForm sold)
+      (isStamp (upToBlank (behindLots v)) (afterBlank (behindLots v)))))
 
   -- 6 and 8 are asked of a value that is of its form
   pub last-chain : (m n : ℕ) (good b : Bool) (next : Step A) → refuse m (not good) (refuse n b next) ≡ refuse m (not good) (refuse n (good && b) next)

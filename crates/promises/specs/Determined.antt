@@ -39,6 +39,12 @@ pub lesser : Determined rules.lesser.ended rules.lesser.Reads.Learnt
 lesser κs a r q s t e f = (e ∙ sym f, refl)
 
 -- figures
+pub price-form : Determined figures.price_form.ended figures.price_form.Reads.Learnt
+price-form κs a r q s t e f = (e ∙ sym f, refl)
+
+pub read-written : Determined figures.read_written.ended figures.read_written.Reads.Learnt
+read-written κs a r q s t e f = (e ∙ sym f, refl)
+
 pub read-figure : Determined figures.read_figure.ended figures.read_figure.Reads.Learnt
 read-figure κs a r q s t e f = (e ∙ sym f, refl)
 
@@ -46,7 +52,7 @@ pub read-opening : Determined figures.read_opening.ended figures.read_opening.Re
 read-opening κs a r q s t e f = (e ∙ sym f, refl)
 
 pub read-again : Determined figures.read_again.ended figures.read_again.Reads.Learnt
-read-again κs a r q s t e f = (ap tradeIn (sym e ∙ f), refl)
+read-again κs a r q s t e f = (ap tradeIn (sym (e .1) ∙ f .1), refl)
 
 -- codes
 pub read-code : Determined codes.read_code.ended codes.read_code.Reads.Learnt

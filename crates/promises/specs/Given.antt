@@ -11,12 +11,12 @@ use Rattle.rules.specs.declared.Terms.{Terms}
 use Rattle.rules.specs.Refusal as refusal
 use Rattle.rules.specs.Limits.{longestBook}
 use Rattle.rules.specs.Text.{is, bytes}
-use Rattle.rules.specs.Figures.{numberAfter, fen, lots, priceForm, rateForm, heldForm, tradedForm, number}
+use Rattle.rules.specs.Figures.{numberAfter, fen, lots, number}
 use Rattle.rules.specs.Stamp.{stamp, stampNumber}
 use Rattle.rules.specs.Opening.{upToBlank, afterBlank}
 use Rattle.rules.specs.Codes.{same}
 use Rattle.rules.specs.Book.{Customer, Group, Nobody, Open, DueK, DueH, DueQ, DueTrade, begun, held, traded}
-use Rattle.rules.specs.Book.{Due, AtTerm, InGroup, Term, DueD, DueS, DueL, DueU, DueV, noTerms, locked, settled, withLoss, withEdge1, withEdge2}
+use Rattle.rules.specs.Book.{Due, AtTerm, InGroup, Term, DueD, DueX, DueS, DueL, DueU, DueV, noTerms, locked, withDecimals, settled, withLoss, withEdge1, withEdge2}
 use Rattle.rules.specs.Book.{Stage, Reading, Ended}
 use Rattle.laws.specs.Fields.{sizeAt}
 use Rattle.promises.specs.Reasons.{customersRead, First, Sound}
@@ -24,24 +24,25 @@ use Rattle.promises.specs.Reasons.{customersRead, First, Sound}
 -- What a sound field adds to what was read: one of the terms, the customer's K, H, Q or a trade, or at C and Z the customer before it.
 
 abbrev pub withTerm : Term → Terms → List ℕ → Due
-withTerm DueD ts v = AtTerm DueS (locked ts (same v (bytes "D")))
-withTerm DueS ts v = AtTerm DueL (settled ts (number priceForm v))
-withTerm DueL ts v = AtTerm DueU (withLoss ts (number rateForm v))
-withTerm DueU ts v = AtTerm DueV (withEdge1 ts (number rateForm v))
-withTerm DueV ts v = InGroup (withEdge2 ts (number rateForm v)) [] Nobody
+withTerm DueD ts v = AtTerm DueX (locked ts (same v (bytes "D")))
+withTerm DueX ts v = AtTerm DueS (withDecimals ts (cond (same v (bytes "0")) 0 2))
+withTerm DueS ts v = AtTerm DueL (settled ts (number v))
+withTerm DueL ts v = AtTerm DueU (withLoss ts (number v))
+withTerm DueU ts v = AtTerm DueV (withEdge1 ts (number v))
+withTerm DueV ts v = InGroup (withEdge2 ts (number v)) [] Nobody
 
 abbrev pub withPart : Group → ℕ → List ℕ → Group
 withPart Nobody t v = Nobody
-withPart (Open DueK c) t v = Open DueH (held c (record { long = lots (number heldForm v); short = c .position .short; unfilled = c .position .unfilled }))
-withPart (Open DueH c) t v = Open DueQ (held c (record { long = c .position .long; short = lots (number heldForm v); unfilled = c .position .unfilled }))
-withPart (Open DueQ c) t v = Open DueTrade (held c (record { long = c .position .long; short = c .position .short; unfilled = lots (number heldForm v) }))
+withPart (Open DueK c) t v = Open DueH (held c (record { long = lots (number v); short = c .position .short; unfilled = c .position .unfilled }))
+withPart (Open DueH c) t v = Open DueQ (held c (record { long = c .position .long; short = lots (number v); unfilled = c .position .unfilled }))
+withPart (Open DueQ c) t v = Open DueTrade (held c (record { long = c .position .long; short = c .position .short; unfilled = lots (number v) }))
 withPart (Open DueTrade c) t v =
     let rest = afterBlank v in
     let made = afterBlank rest in
     Open DueTrade (traded c (record {
       bought = is "B" t;
-      price = fen (number priceForm (upToBlank v));
-      lots = lots (number tradedForm (upToBlank rest));
+      price = fen (number (upToBlank v));
+      lots = lots (number (upToBlank rest));
       stamp = stamp (stampNumber (numberAfter 0 (upToBlank made)) (numberAfter 0 (afterBlank made)));
     }))
 

@@ -6,6 +6,7 @@ pub mod DeterminedLent
 pub mod ViewCall
 pub mod Outcomes
 pub mod Reasons
+pub mod Forms
 pub mod Given
 pub mod Chains
 pub mod Stepwise

@@ -12,12 +12,12 @@ use Rattle.rules.specs.declared.Form.{Form}
 use Rattle.rules.specs.Refusal as refusal
 use Rattle.rules.specs.Limits.{mostCustomers}
 use Rattle.rules.specs.Text.{is, bytes}
-use Rattle.rules.specs.Figures.{numberAfter, priceForm, rateForm, heldForm, tradedForm, has, formed, number, inRange}
+use Rattle.rules.specs.Figures.{numberAfter, priceForm, rateForm, heldForm, tradedForm, has, behindPoint, number, isWritten, inRange}
 use Rattle.rules.specs.Stamp.{digitsOf, isDay, isTime}
 use Rattle.rules.specs.Opening.{upToBlank, afterBlank}
 use Rattle.rules.specs.Codes.{isCode, same}
 use Rattle.rules.specs.Book.{Customer, uncovered, given, Nobody, Open, DueK, DueH, DueQ, DueTrade, begun}
-use Rattle.rules.specs.Book.{Due, AtTerm, InGroup, DueD, DueS, DueL, DueU, DueV}
+use Rattle.rules.specs.Book.{Due, AtTerm, InGroup, DueD, DueX, DueS, DueL, DueU, DueV}
 
 -- What was read before the field: the terms; the customer whose group is open, or nobody, who has no lots and no trades; and the customers up to
 -- a C or Z that stands here, with the one whose group it closes.
@@ -36,9 +36,11 @@ customersRead (AtTerm term ts) = []
 customersRead (InGroup terms cs Nobody) = cs
 customersRead (InGroup terms cs (Open part c)) = cs ++ c ∷ []
 
--- "Terms, each once: D, S, L, U, V", then groups of "C, K, H, Q, then opening trades, each B or A", then "Z": the tags that may stand where
+-- "Terms, each once: D, S, L, U, V", and "X after D", then groups of "C, K, H, Q, then opening trades, each B or A", then "Z": the tags that may
+-- stand where
 abbrev pub belongs : Due → ℕ → Bool
 belongs (AtTerm DueD ts) t = is "D" t
+belongs (AtTerm DueX ts) t = is "X" t
 belongs (AtTerm DueS ts) t = is "S" t
 belongs (AtTerm DueL ts) t = is "L" t
 belongs (AtTerm DueU ts) t = is "U" t
@@ -53,31 +55,32 @@ belongs (InGroup terms cs (Open DueTrade c)) t = is "C" t || is "Z" t || is "B" 
 abbrev pub stands : Char → Due → ℕ → Bool
 stands letter due t = is letter t && belongs due t
 
--- a value is a figure of a form, in its range
+-- a value is a figure of a form: written as one, with its form's decimals and in its range
 abbrev pub isFigure : Form → List ℕ → Bool
-isFigure form v = formed form v && inRange form (number form v)
+isFigure form v = isWritten v && eqb (length (behindPoint v)) (form .decimals) && inRange form (number v)
 
 -- the day as eight digits and the time as four, and both are such
 abbrev pub isStamp : List ℕ → List ℕ → Bool
 isStamp day time = digitsOf 8 day && digitsOf 4 time && isDay (numberAfter 0 day) && isTime (numberAfter 0 time)
 
--- "a price, one blank (0x20), lots", and "a blank, the trading day as eight digits, a blank and the time as four digits"
-abbrev pub isTrade : List ℕ → Bool
-isTrade v =
+-- "a price, one blank (0x20), lots", and "a blank, the trading day as eight digits, a blank and the time as four digits"; the price has x decimals
+abbrev pub isTrade : ℕ → List ℕ → Bool
+isTrade x v =
     let rest = afterBlank v in
     let made = afterBlank rest in
-    isFigure priceForm (upToBlank v) && isFigure tradedForm (upToBlank rest) && isStamp (upToBlank made) (afterBlank made)
+    isFigure (priceForm x) (upToBlank v) && isFigure tradedForm (upToBlank rest) && isStamp (upToBlank made) (afterBlank made)
 
--- the table of tags and values, with "Z, length 0"; no other tag has a form
-abbrev pub isOf : ℕ → List ℕ → Bool
-isOf t v =
+-- the table of tags and values, with "X, one byte 0 or 2", by which every price has x decimals, and "Z, length 0"; no other tag has a form
+abbrev pub isOf : ℕ → ℕ → List ℕ → Bool
+isOf x t v =
     cond (is "D" t) (same v (bytes "D") || same v (bytes "U"))
-    (cond (is "S" t) (isFigure priceForm v)
+    (cond (is "X" t) (same v (bytes "0") || same v (bytes "2"))
+    (cond (is "S" t) (isFigure (priceForm x) v)
     (cond (is "L" t || is "U" t || is "V" t) (isFigure rateForm v)
     (cond (is "C" t) (isCode v)
     (cond (is "K" t || is "H" t || is "Q" t) (isFigure heldForm v)
-    (cond (is "B" t || is "A" t) (isTrade v)
-    (cond (is "Z" t) (eqb (length v) 0) true))))))
+    (cond (is "B" t || is "A" t) (isTrade x v)
+    (cond (is "Z" t) (eqb (length v) 0) true)))))))
 
 -- A rule: its number, and whether a field breaks it, by what was read before the field, its tag t and its value v.
 pub record Rule : Type 0 where
@@ -97,13 +100,13 @@ rule4 =
     rule refusal.comma (λ due t v.
     (is "S" t || is "L" t || is "U" t || is "V" t || is "K" t || is "H" t || is "Q" t || is "B" t || is "A" t) && has "," v)
 
--- "a value is otherwise not of its form or range"
+-- "a value is otherwise not of its form or range"; "a wrong X value, or decimals other than X, is 5"
 abbrev pub rule5 : Rule
-rule5 = rule refusal.malformed (λ due t v. not (isOf t v))
+rule5 = rule refusal.malformed (λ due t v. not (isOf (termsRead due .decimals) t v))
 
 -- "U is not greater than V"
 abbrev pub rule6 : Rule
-rule6 = rule refusal.edges (λ due t v. stands "V" due t && isFigure rateForm v && leb (termsRead due .edge1 .0) (number rateForm v))
+rule6 = rule refusal.edges (λ due t v. stands "V" due t && isFigure rateForm v && leb (termsRead due .edge1 .0) (number v))
 
 -- "a customer code was given before"
 abbrev pub rule7 : Rule
@@ -114,7 +117,7 @@ abbrev pub rule8 : Rule
 rule8 =
     rule refusal.overdrawn (λ due t v.
     let p = customerRead due .position in
-    stands "Q" due t && isFigure heldForm v && ltb (cond (termsRead due .down) (p .long .0) (p .short .0)) (number heldForm v))
+    stands "Q" due t && isFigure heldForm v && ltb (cond (termsRead due .down) (p .long .0) (p .short .0)) (number v))
 
 -- "the customer's opening trades on the side of its net position sum to less than that position", "at C or Z after a customer"
 abbrev pub rule9 : Rule

@@ -17,10 +17,10 @@ use Rattle.rules.specs.Text.{is}
 use Rattle.rules.specs.Figures.{priceForm, rateForm, heldForm, has}
 use Rattle.rules.specs.Book.{Customer, uncovered, Step, Next, refuse, Stage, Reading, Ended, goesOn, ends, step}
 use Rattle.rules.specs.Book.{Group, Nobody, Open, DueK, DueH, DueQ, DueTrade, within, traded}
-use Rattle.rules.specs.Book.{Due, AtTerm, InGroup, Term, DueD, DueS, DueL, DueU, DueV, locked}
+use Rattle.rules.specs.Book.{Due, AtTerm, InGroup, Term, DueD, DueX, DueS, DueL, DueU, DueV, locked, withDecimals}
 use Rattle.promises.specs.Reasons.{isFigure, Rule, inOrder}
 use Rattle.promises.specs.Given.{withPart, leads}
-use Rattle.promises.specs.Chains.{figure-chain, lock-chain, trade-chain, last-chain}
+use Rattle.promises.specs.Chains.{figure-chain, lock-chain, places-chain, trade-chain, last-chain}
 
 module _ {A : Type 0} where
   -- the rules of a list, asked one after another
@@ -41,8 +41,9 @@ Asked due t v = step due t v ≡ asked due t v inOrder (Next (leads due t v))
 
 asked-term : (term : Term) (ts : Terms) (t : ℕ) (v : List ℕ) → Asked (AtTerm term ts) t v
 unfolding step
-asked-term DueD ts t v = by-tag "D" t (λ x. Asked (AtTerm DueD ts) x v) (lock-chain v (λ d. Next (Reading (AtTerm DueS (locked ts d))))) (λ e. rw e refl)
-asked-term DueS ts t v = by-tag "S" t (λ x. Asked (AtTerm DueS ts) x v) (figure-chain priceForm v _) (λ e. rw e refl)
+asked-term DueD ts t v = by-tag "D" t (λ x. Asked (AtTerm DueD ts) x v) (lock-chain v (λ d. Next (Reading (AtTerm DueX (locked ts d))))) (λ e. rw e refl)
+asked-term DueX ts t v = by-tag "X" t (λ x. Asked (AtTerm DueX ts) x v) (places-chain v (λ x. Next (Reading (AtTerm DueS (withDecimals ts x))))) (λ e. rw e refl)
+asked-term DueS ts t v = by-tag "S" t (λ x. Asked (AtTerm DueS ts) x v) (figure-chain (priceForm (ts .decimals)) v _) (λ e. rw e refl)
 asked-term DueL ts t v = by-tag "L" t (λ x. Asked (AtTerm DueL ts) x v) (figure-chain rateForm v _) (λ e. rw e refl)
 asked-term DueU ts t v = by-tag "U" t (λ x. Asked (AtTerm DueU ts) x v) (figure-chain rateForm v _) (λ e. rw e refl)
 asked-term DueV ts t v =
@@ -73,8 +74,8 @@ module _ (terms : Terms) (cs : List Customer) where
       (λ k. rw k refl)
   asked-within (Open DueTrade c) t v e f =
       let next : Trade → Step Group = λ x. Next (Open DueTrade (traded c x)) in
-      by-tag "B" t (λ x. Within (Open DueTrade c) x v) (trade-chain true v next) (λ k.
-      by-tag "A" t (λ x. Within (Open DueTrade c) x v) (trade-chain false v next) (λ l.
+      by-tag "B" t (λ x. Within (Open DueTrade c) x v) (trade-chain (terms .decimals) true v next) (λ k.
+      by-tag "A" t (λ x. Within (Open DueTrade c) x v) (trade-chain (terms .decimals) false v next) (λ l.
       rw (e, f, k, l) refl))
 
   goes-asked : (due : Due) (t : ℕ) (v : List ℕ) (rs : List Rule) (g : Group) → goesOn terms cs (asked due t v rs (Next g)) ≡ asked due t v rs (Next (Reading (InGroup terms cs g)))
