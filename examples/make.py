@@ -5,8 +5,9 @@ one with the line that the program puts on standard error too, NAME.said.
 The listings are written out here by hand, from those documents, and the lines from section 16 of docs/RULES.md; none is taken from a
 program. Run it in this folder.
 
-The one exception is typical.txt, too long to write by hand. This script writes its book alone; its listing is what the second program
-printed, and the gate holds both programs to it. In the folder above: target/cargo/release/second < examples/typical.book"""
+The exceptions are typical.txt and silver.txt, too long to write by hand. This script writes their books alone; their listings are what
+the second program printed, and the gate holds both programs to them. In the folder above:
+target/cargo/release/second < examples/typical.book"""
 
 
 def field(tag, value):
@@ -14,8 +15,15 @@ def field(tag, value):
     return tag.encode() + bytes(divmod(len(value), 256)) + value
 
 
-def terms(lock="D", s="400.00", l="8.000", u="8.000", v="4.000"):
-    return field("D", lock) + field("S", s) + field("L", l) + field("U", u) + field("V", v)
+def terms(lock="D", x="2", s="400.00", l="8.000", u="8.000", v="4.000"):
+    """Gold's, with two decimals in every price. No x: the terms as books once had them."""
+    decimals = b"" if x is None else field("X", x)
+    return field("D", lock) + decimals + field("S", s) + field("L", l) + field("U", u) + field("V", v)
+
+
+def silver_terms(lock="D", s="8000"):
+    """Silver's, with prices in whole yuan."""
+    return terms(lock, "0", s, "10.000", "10.000", "5.000")
 
 
 def customer(code, k, h, q, *trades):
@@ -26,9 +34,9 @@ END = field("Z", "")
 STAMP = " 20250115 1000"  # the one day and time of document 01's cases, with their blanks: 14 bytes
 
 
-def listing(l="8.000", stamp=STAMP):
+def listing(l="8.000", stamp=STAMP, x="2"):
     return (
-        terms(l=l)
+        terms(l=l, x=x)
         + customer("W3", "0", "1", "0", ("A", "410.00 1" + stamp))
         + customer("P2", "4", "0", "4", ("B", "440.00 4" + stamp))
         + customer("W1", "0", "3", "0", ("A", "440.00 3" + stamp))
@@ -70,6 +78,26 @@ def by_clock(trades):
     return sorted(trades, key=lambda trade: trade[1].split()[2:])
 
 
+def silver_edges():
+    """S 8000: 10 percent are 800 yuan and 5 percent 400. Exactly at each edge, and one yuan beside it."""
+    return (
+        silver_terms()
+        + customer("P1", "10", "0", "10", ("B", "8800 10" + STAMP))
+        + customer("P2", "10", "0", "10", ("B", "8799 10" + STAMP))
+        + customer("W1", "0", "3", "0", ("A", "8800 3" + STAMP))
+        + customer("W2", "0", "2", "0", ("A", "8799 2" + STAMP))
+        + customer("W3", "0", "2", "0", ("A", "8400 2" + STAMP))
+        + customer("W4", "0", "5", "0", ("A", "8399 5" + STAMP))
+        + customer("W5", "0", "1", "0", ("A", "8001 1" + STAMP))
+        + customer("W6", "0", "4", "0", ("A", "8000 4" + STAMP))
+        + END
+    )
+
+
+# P1 has 10 pending. Tier 1 gives its 3 and tier 2 its 4; the last 3 are divided over W4 5 and W5 1, 2.5 and 0.5: the spare lot is W4's.
+AT_EDGES = "total 10\nleft 0\nP1 P 10\nP2 N 0\nW1 1 3\nW2 2 2\nW3 2 2\nW4 3 3\nW5 3 0\nW6 N 0\n"
+
+
 def crowd(n):
     """n customers without a position, of 19 bytes each."""
     return b"".join(customer(f"{1000 + i}", "0", "0", "0") for i in range(n))
@@ -101,7 +129,7 @@ class Row:
 
 # Customers by what they did, as (side of the net position, lowest and highest price around which they opened, in fen). The lock is at
 # the lower limit and S is 389.47: longs who bought high have the loss, shorts who sold high have the gain.
-KINDS = [
+GOLD_KINDS = [
     ("B", 416_00, 450_00),  # a loss about the loss edge, or far beyond it
     ("B", 423_00, 455_00),
     ("B", 423_00, 455_00),
@@ -112,10 +140,28 @@ KINDS = [
     ("A", 389_00, 406_00),
     ("A", 365_00, 389_00),  # short with a loss
 ]
+# The same of silver, in yuan. The lock is at the upper limit and S is 7843: shorts who sold low have the loss, longs who bought low have
+# the gain.
+SILVER_KINDS = [
+    ("A", 6400, 7120),  # a loss about the loss edge, or far beyond it
+    ("A", 6400, 7040),
+    ("A", 6400, 7040),
+    ("A", 7650, 8250),  # short with a gain or a small loss
+    ("B", 6650, 7080),  # a gain in tier 1, or just below
+    ("B", 7030, 7480),  # in tier 2, or near its edges
+    ("B", 7430, 7843),  # in tier 3, or no gain
+    ("B", 7430, 7843),
+    ("B", 7843, 8300),  # long with a loss
+]
 
 
-def price(fen):
-    return f"{fen // 100}.{fen % 100:02d}"
+def in_fen(price):
+    return f"{price // 100}.{price % 100:02d}"
+
+
+# a metal: its terms, its customers, how far their prices spread, how a price is written, and whose lots are locked, K's or H's
+GOLD = (terms(s="389.47"), GOLD_KINDS, 6_00, in_fen, 0)
+SILVER = (silver_terms("U", "7843"), SILVER_KINDS, 120, str, 1)
 
 
 # The hours of trading in steps of 5, as minutes after 19:50: 20:00 to 2:30, 9:00 to 11:30 and 13:30 to 15:30.
@@ -129,7 +175,7 @@ def stamps(row, count):
         yield f"202501{day:02d} {hour:02d}{minute:02d}"
 
 
-def opened(row, side, low, high):
+def opened(row, side, low, high, spread, price):
     """Opening trades oldest first, one in six of them on the other side, and the lots opened on the two sides."""
     trades, lots = [], {"A": 0, "B": 0}
     around = row.among(low, high)
@@ -138,24 +184,26 @@ def opened(row, side, low, high):
         tag = side if own else "AB"[side == "A"]
         count = row.among(1, 60) if own else row.among(1, 9)
         lots[tag] += count
-        trades.append((tag, f"{price(around + row.among(-6_00, 6_00))} {count} {stamp}"))
+        trades.append((tag, f"{price(around + row.among(-spread, spread))} {count} {stamp}"))
     return trades, lots
 
 
-def typical_customer(row, number):
-    """Some of what was opened is still held, and some of what is held long was offered at the limit price and not filled."""
-    side, low, high = KINDS[row.among(0, len(KINDS) - 1)]
-    trades, lots = opened(row, side, low, high)
+def typical_customer(row, number, metal):
+    """Some of what was opened is still held, and some of what is held on the locked side was offered at the limit price and not filled."""
+    _, kinds, spread, price, locked = metal
+    side, low, high = kinds[row.among(0, len(kinds) - 1)]
+    trades, lots = opened(row, side, low, high, spread, price)
     k, h = (row.among(lots[tag] // 2, lots[tag]) for tag in "BA")
-    q = row.among(k // 3, k) if row.among(1, 5) > 1 else 0
+    most = (k, h)[locked]
+    q = row.among(most // 3, most) if row.among(1, 5) > 1 else 0
     code = f"{'ABCDEFGH'[number % 8]}{number * 10_007 % 99_991:05d}" + "XY12"[: row.among(0, 4)]
     return customer(code, str(k), str(h), str(q), *trades)
 
 
-def typical():
+def typical(metal, start):
     """About 200 customers with several trades each: the size of a real book."""
-    row = Row(26)
-    return terms(s="389.47") + b"".join(typical_customer(row, 1 + i) for i in range(204)) + END
+    row = Row(start)
+    return metal[0] + b"".join(typical_customer(row, 1 + i, metal) for i in range(204)) + END
 
 
 NOTHING = "total 0\nleft 0\n"
@@ -169,38 +217,46 @@ BOOKS = {
         with_trades([P1[2], P1[0], P1[3], P1[1]], [W1[2], W1[0], W1[1]], [W2[3], W2[1], W2[0], W2[2]]),
         BY_TIME,
     ),
+    "silver-edges": (silver_edges(), AT_EDGES),
 }
 # the book, its number and place, and the words for them
 REFUSED = {
     "1-too-long": (sized(60_001), "1 at 0", "the book has more than 60,000 bytes"),
-    "2-cut": (terms()[:-1], "2 at 29", "the book ends before the end of the tier 2 edge V"),
-    "3-tag": (terms() + field("X", ""), "3 at 37", "a byte that is no tag, or that follows Z"),
-    "4-comma": (listing("8,000"), "4 at 13", "a comma in the loss edge L"),
-    "5-form": (terms(s="00.01") + END, "5 at 4", "not of its form or range: the settlement price S"),
+    "2-cut": (terms()[:-1], "2 at 33", "the book ends before the end of the tier 2 edge V"),
+    "3-tag": (terms() + field("Y", ""), "3 at 41", "a byte that is no tag, or that follows Z"),
+    "3-no-decimals": (listing(x=None), "3 at 4", "a tag that does not belong here: the settlement price S"),
+    "4-comma": (listing("8,000"), "4 at 17", "a comma in the loss edge L"),
+    "5-form": (terms(s="00.01") + END, "5 at 8", "not of its form or range: the settlement price S"),
+    "5-decimals": (terms(x="1", s="400.0") + END, "5 at 4", "not of its form or range: the decimals X"),
+    "5-other-decimals": (
+        silver_terms() + customer("A", "0", "0", "0", ("B", "8000.00 1" + STAMP)) + END,
+        "5 at 57",
+        "not of its form or range: the bought trade B",
+    ),
     "5-day": (
         terms() + customer("A", "0", "0", "0", ("B", "400.00 1 20250229 1000")) + END,
-        "5 at 53",
+        "5 at 57",
         "not of its form or range: the bought trade B",
     ),
     "5-time": (
         terms() + customer("A", "0", "0", "0", ("B", "400.00 1 20250115 2400")) + END,
-        "5 at 53",
+        "5 at 57",
         "not of its form or range: the bought trade B",
     ),
-    "5-old-form": (listing(stamp=""), "5 at 54", "not of its form or range: the sold trade A"),
-    "6-edges": (terms(u="4.000") + END, "6 at 29", "the tier 1 edge U is not greater than the tier 2 edge V"),
-    "7-twice": (terms() + customer("A", "0", "0", "0") * 2 + END, "7 at 53", "this customer code was given before"),
+    "5-old-form": (listing(stamp=""), "5 at 58", "not of its form or range: the sold trade A"),
+    "6-edges": (terms(u="4.000") + END, "6 at 33", "the tier 1 edge U is not greater than the tier 2 edge V"),
+    "7-twice": (terms() + customer("A", "0", "0", "0") * 2 + END, "7 at 57", "this customer code was given before"),
     "8-unfilled": (
         terms() + customer("A", "5", "0", "6", ("B", "400.00 5" + STAMP)) + END,
-        "8 at 49",
+        "8 at 53",
         "the unfilled lots Q exceed the lots held on the locked side",
     ),
     "9-trades": (
         terms() + customer("A", "5", "0", "0", ("B", "400.00 4" + STAMP)) + END,
-        "9 at 37",
+        "9 at 41",
         "this customer's opening trades on its net side sum to less than its net position",
     ),
-    "10-customers": (terms() + crowd(257) + END, "10 at 4901", "more than 256 customers"),
+    "10-customers": (terms() + crowd(257) + END, "10 at 4905", "more than 256 customers"),
 }
 
 
@@ -209,7 +265,8 @@ def write(name, content):
         f.write(content if isinstance(content, bytes) else content.encode("ascii"))
 
 
-write("typical.book", typical())
+write("typical.book", typical(GOLD, 26))
+write("silver.book", typical(SILVER, 3))
 for name, (book, text) in BOOKS.items():
     write(f"{name}.book", book)
     write(f"{name}.txt", text)

@@ -5,8 +5,9 @@ mod common;
 use std::path::Path;
 
 use common::{
-    answered_with, right, right_view, ties_by_row_order, ties_by_the_earlier_place,
-    trades_by_clock, trades_by_minute, trades_by_place, trades_from_20_00, values, with_values,
+    answered_with, decimals_not_compared, leading_zeros_taken, right, right_view, s_always_in_fen,
+    ties_by_row_order, ties_by_the_earlier_place, trades_by_clock, trades_by_minute,
+    trades_by_place, trades_from_20_00, values, with_values, x_after_s, x_of_1_taken,
 };
 use harness::compare::{Check, Counts, Difference};
 use harness::fields::{fields, groups, value};
@@ -104,12 +105,40 @@ fn wrong_orders_of_trades_are_found() {
         println!("{}", harness::text::difference(&difference, &small));
         let trades = values(&small, b'B').len() + values(&small, b'A').len();
         assert!(
-            trades >= 2 && small.len() <= 240,
+            trades >= 2 && small.len() <= 256,
             "{} bytes left",
             small.len()
         );
         assert!(groups(&small).len() <= 2);
     }
+}
+
+/// Wrong readings of X and of prices by it: what is refused is answered otherwise.
+#[test]
+fn wrong_readings_of_decimals_are_found() {
+    // Up to X, up to S, and up to a customer's first trade.
+    let wrong: [(Call, usize); 3] = [
+        (x_of_1_taken, 8),
+        (decimals_not_compared, 18),
+        (leading_zeros_taken, 80),
+    ];
+    for (call, most_bytes) in wrong {
+        let (_, difference) = found(call, Check::Answer, most_bytes);
+        assert_eq!(difference.call.want.number, 5);
+    }
+    found(x_after_s, Check::Answer, 12);
+}
+
+#[test]
+fn a_settlement_price_in_another_unit_is_found() {
+    let first = compared(PLAN, s_always_in_fen, right_view)
+        .first
+        .expect("a difference");
+    let (small, difference) = shrunk(&first, &mut tried(s_always_in_fen, right_view));
+    println!("{}", harness::text::difference(&difference, &small));
+    assert_eq!(values(&small, b'X'), [b"0"]);
+    assert_eq!(groups(&small).len(), 1, "one customer shows it");
+    assert!(small.len() <= 94, "{} bytes left", small.len());
 }
 
 #[test]
@@ -121,7 +150,7 @@ fn a_byte_written_after_the_report_is_found() {
         }
         answer
     }
-    let (small, difference) = found(wrong, Check::Buffer, 40);
+    let (small, difference) = found(wrong, Check::Buffer, 44);
     assert!(groups(&small).is_empty(), "terms and Z show it");
     assert!(
         difference.told.contains("first difference at 8:"),
@@ -251,7 +280,7 @@ fn offsets_in_place_of_pending_are_found() {
         pending[..count].copy_from_slice(&offsets[..count]);
         answer
     }
-    let (small, difference) = found_view(wrong, Check::Runs, 80);
+    let (small, difference) = found_view(wrong, Check::Runs, 84);
     assert_eq!(groups(&small).len(), 1, "one pending customer shows it");
     assert!(difference.told.contains("pending, first difference at 0"));
 }
@@ -266,7 +295,7 @@ fn a_place_too_far_is_found() {
         }
         answer
     }
-    let (small, difference) = found_view(wrong, Check::Runs, 40);
+    let (small, difference) = found_view(wrong, Check::Runs, 44);
     assert!(groups(&small).is_empty(), "terms and Z show it");
     assert!(difference.told.contains("offsets, first difference at 0"));
 }
@@ -292,7 +321,7 @@ fn another_order_than_the_books_is_found() {
         offered[..count].reverse();
         answer
     }
-    let (small, _) = found_view(wrong, Check::Runs, 128);
+    let (small, _) = found_view(wrong, Check::Runs, 172);
     assert_eq!(groups(&small).len(), 2);
 }
 

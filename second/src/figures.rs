@@ -1,13 +1,13 @@
 //! The figures of document 01: prices, rates and lots, read straight from the value; and
 //! the day and time of a trade, which are digits of a fixed number.
 //!
-//! Everything that says how a figure is written stands in this file, so a change of
-//! a form (decimals by a term) is a change here.
+//! Everything that says how a figure is written stands in this file. A price is read in the
+//! one form that the book's term X leaves it, so other decimals are no figure at all.
 
 use crate::cursor::Field;
 use crate::refusal::{Refusal, Rule};
 use crate::stamp::Stamp;
-use crate::units::{Fen, Lots, Rate};
+use crate::units::{Decimals, Lots, Price, Rate};
 
 /// The largest figure in lots, in holdings and in trades.
 const MOST_LOTS: u32 = 1_000_000;
@@ -15,14 +15,14 @@ const MOST_LOTS: u32 = 1_000_000;
 /// An opening trade, without its side: the tag tells that.
 #[derive(Clone, Copy, Debug, PartialEq, Eq)]
 pub struct Trade {
-    pub price: Fen,
+    pub price: Price,
     pub lots: Lots,
     pub stamp: Stamp,
 }
 
-/// The value of S.
-pub fn price(field: &Field) -> Result<Fen, Refusal> {
-    figure(field, Scan::price)
+/// The value of S, with the decimals that X says.
+pub fn price(field: &Field, decimals: Decimals) -> Result<Price, Refusal> {
+    figure(field, |scan| scan.price(decimals))
 }
 
 /// The value of L, U or V.
@@ -36,10 +36,11 @@ pub fn held(field: &Field) -> Result<Lots, Refusal> {
 }
 
 /// The value of B or A: "a price, one blank (0x20), lots", at least 1 lot, then by request
-/// [2] "a blank, the trading day as eight digits, a blank and the time as four digits".
+/// [2] "a blank, the trading day as eight digits, a blank and the time as four digits". The
+/// price has the decimals that X says.
 #[inline]
-pub fn trade(field: &Field) -> Result<Trade, Refusal> {
-    figure(field, Scan::trade)
+pub fn trade(field: &Field, decimals: Decimals) -> Result<Trade, Refusal> {
+    figure(field, |scan| scan.trade(decimals))
 }
 
 /// Reads the whole value by `read`; a value not of the form is 4 or 5.
@@ -73,12 +74,27 @@ struct Scan<'a> {
 }
 
 impl Scan<'_> {
-    /// 1 to 5 digits, a point, exactly 2 digits; 0.01 to 99999.99.
-    fn price(&mut self) -> Option<Fen> {
+    /// With X 2 a price in fen, with X 0 one in yuan; 0 is none.
+    #[inline]
+    fn price(&mut self, decimals: Decimals) -> Option<Price> {
+        let price = match decimals {
+            Decimals::Two => self.fen()?,
+            Decimals::None => self.yuan()?,
+        };
+        (price > 0).then_some(Price(price))
+    }
+
+    /// 1 to 5 digits, a point, exactly 2 digits; up to 99999.99.
+    fn fen(&mut self) -> Option<u32> {
         let yuan = self.whole(5)?;
         self.byte(b'.')?;
-        let fen = 100 * yuan + self.decimals::<2>()?;
-        (fen > 0).then_some(Fen(fen))
+        Some(100 * yuan + self.decimals::<2>()?)
+    }
+
+    /// Request [3]: "a whole figure from 1 to 9,999,999 without a leading zero". A point
+    /// stays in the rest and fails there.
+    fn yuan(&mut self) -> Option<u32> {
+        self.whole(7)
     }
 
     /// 1 or 2 digits, a point, exactly 3 digits; 0.001 to 99.999.
@@ -95,8 +111,8 @@ impl Scan<'_> {
         (lots <= MOST_LOTS).then_some(Lots(lots))
     }
 
-    fn trade(&mut self) -> Option<Trade> {
-        let price = self.price()?;
+    fn trade(&mut self, decimals: Decimals) -> Option<Trade> {
+        let price = self.price(decimals)?;
         self.byte(b' ')?;
         let lots = self.lots()?;
         self.byte(b' ')?;

@@ -3,7 +3,7 @@
 use std::cmp::Ordering;
 
 use crate::figures::Trade;
-use crate::units::{Fen, Lots, Side};
+use crate::units::{Lots, Price, Side};
 
 /// A net position, above 0 lots.
 #[derive(Clone, Copy, Debug, PartialEq, Eq)]
@@ -26,10 +26,10 @@ impl Net {
     }
 }
 
-/// The signed total gain in fen over the newest trades that make up the net position;
-/// only the needed part of the last one counts. `trades` are those of the net side,
+/// The signed total gain, in the unit of the book's prices, over the newest trades that make
+/// up the net position; only the needed part of the last one counts. `trades` are those of the net side,
 /// oldest first as their stamps say. `None` where they sum to less than the position (refusal 9).
-pub fn total_gain(trades: &[Trade], net: Net, settlement: Fen) -> Option<i128> {
+pub fn total_gain(trades: &[Trade], net: Net, settlement: Price) -> Option<i128> {
     let mut missing = net.lots.0;
     let mut rise = 0_i128;
     for trade in trades.iter().rev() {

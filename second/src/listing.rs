@@ -26,7 +26,7 @@ fn accepted(allotment: &Allotment) -> Vec<u8> {
     text
 }
 
-/// `refused 4 at 13`: number, then place.
+/// `refused 4 at 17`: number, then place.
 fn refused(refusal: Refusal) -> Vec<u8> {
     format!("refused {} at {}\n", refusal.number(), refusal.place).into_bytes()
 }

@@ -163,7 +163,7 @@ impl<'a> Reader<'a> {
                 b'C' | b'Z' => return Ok(field),
                 _ => return Err(field.refuse(Rule::WrongTag)),
             };
-            let trade = figures::trade(&field)?;
+            let trade = figures::trade(&field, self.terms.decimals)?;
             if net_side == Some(side) {
                 self.trades.push(trade);
             }

@@ -1,17 +1,19 @@
-//! The terms at the front of a book: `D`, `S`, `L`, `U`, `V`, each once, in this order.
+//! The terms at the front of a book: `D`, `X`, `S`, `L`, `U`, `V`, each once, in this order.
 
 use crate::cursor::{Cursor, Field};
 use crate::figures;
 use crate::refusal::{Refusal, Rule};
-use crate::units::{Fen, Lots, Rate, Side};
+use crate::units::{Decimals, Lots, Price, Rate, Side};
 
 /// The book's terms; the calculation knows no others.
 #[derive(Clone, Copy, Debug, PartialEq, Eq)]
 pub struct Terms {
     /// The side that can't get out: long at the lower limit, short at the upper.
     pub locked: Side,
+    /// X, the decimals of S and of every trade's price.
+    pub decimals: Decimals,
     /// S, the settlement price of the base date.
-    pub settlement: Fen,
+    pub settlement: Price,
     /// L, the loss edge.
     pub loss_edge: Rate,
     /// U, the lower edge of tier 1.
@@ -34,7 +36,8 @@ impl Terms {
 /// Reads the terms. Every later test may rely on U being greater than V.
 pub fn terms(cursor: &mut Cursor) -> Result<Terms, Refusal> {
     let locked = locked_side(&cursor.expect(b'D')?)?;
-    let settlement = figures::price(&cursor.expect(b'S')?)?;
+    let decimals = decimals(&cursor.expect(b'X')?)?;
+    let settlement = figures::price(&cursor.expect(b'S')?, decimals)?;
     let loss_edge = figures::rate(&cursor.expect(b'L')?)?;
     let tier1_edge = figures::rate(&cursor.expect(b'U')?)?;
     let v = cursor.expect(b'V')?;
@@ -45,6 +48,7 @@ pub fn terms(cursor: &mut Cursor) -> Result<Terms, Refusal> {
     }
     Ok(Terms {
         locked,
+        decimals,
         settlement,
         loss_edge,
         tier1_edge,
@@ -57,6 +61,15 @@ fn locked_side(field: &Field) -> Result<Side, Refusal> {
     match field.value {
         b"D" => Ok(Side::Long),
         b"U" => Ok(Side::Short),
+        _ => Err(field.refuse(Rule::Form)),
+    }
+}
+
+/// X: one byte, `0` or `2`. Else 5, a comma too: X isn't among the fields of refusal 4.
+fn decimals(field: &Field) -> Result<Decimals, Refusal> {
+    match field.value {
+        b"0" => Ok(Decimals::None),
+        b"2" => Ok(Decimals::Two),
         _ => Err(field.refuse(Rule::Form)),
     }
 }

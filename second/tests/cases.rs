@@ -1,5 +1,5 @@
 //! Document 01, "Both sides of each edge" and the listing given in full. All trades have
-//! one day and time, as request [2] says.
+//! one day and time, as request [2] says, and prices two decimals, as request [3] says.
 
 mod common;
 
@@ -102,9 +102,9 @@ fn case_10_the_listing() {
 }
 
 #[test]
-fn the_listing_with_a_comma_is_refused_4_at_13() {
-    let terms = "DD;S400.00;L8,000;U8.000;V4.000;";
-    assert_eq!(listed(&format!("{terms}{LISTED}")), "refused 4 at 13\n");
+fn the_listing_with_a_comma_is_refused_4_at_17() {
+    let terms = "DD;X2;S400.00;L8,000;U8.000;V4.000;";
+    assert_eq!(listed(&format!("{terms}{LISTED}")), "refused 4 at 17\n");
 }
 
 #[test]

@@ -84,6 +84,11 @@ fn every_refusal_number_is_reached() {
     counts.at_least(20, &names("stamp misspelt gave", &[4, 5]));
     counts.at_least(20, &names("blanks of a trade gave", &[4, 5]));
     counts.at_least(200, &names("parts of a trade gave", &[5]));
+    // A term X or a price that was replaced is bad, or good and another.
+    counts.at_least(20, &names("X replaced gave", &[0, 5]));
+    counts.at_least(200, &names("X elsewhere gave", &[3]));
+    counts.at_least(20, &names("other decimals gave", &[4, 5]));
+    counts.at_least(20, &names("price replaced gave", &[0, 4, 5]));
     let damaged = counts
         .seen
         .keys()
@@ -118,7 +123,93 @@ fn every_standing_is_reached_in_both_lock_directions() {
     }
 }
 
-/// At an edge, or beside it by no more than one fen of the total.
+/// The value of X of a book that is accepted.
+fn decimals(book: &[u8]) -> char {
+    char::from(book[7])
+}
+
+#[test]
+fn every_standing_is_reached_with_both_kinds_of_prices() {
+    let counts = counted(|counts, family, made| {
+        let answer = allot(&made.bytes, ROOM);
+        if answer.number == 0 {
+            let x = decimals(&made.bytes);
+            counts.add(format!("{family} X {x}"));
+            for line in &common::report(&answer.report).lines {
+                let offset = if line.offset > 0 { "some" } else { "none" };
+                counts.add(format!("{family} X {x} {} {offset}", line.standing));
+            }
+        }
+    });
+    for family in ["whole", "edge", "damaged"] {
+        counts.at_least(400, &names(family, &["X 0", "X 2"]));
+        for x in ["0", "2"] {
+            let prefix = format!("{family} X {x}");
+            let standings = ["P some", "P none", "1 some", "2 some", "3 some", "N none"];
+            counts.at_least(100, &names(&prefix, &standings));
+        }
+    }
+}
+
+/// Silver as sheets have it: whole yuan per kilogram with the edges of Article 24. And both ends of each kind of price,
+/// in S and in trades.
+#[test]
+fn prices_of_real_size_and_at_the_ends_of_their_ranges_are_reached() {
+    let ends = ["1", "9999999", "0.01", "99999.99"];
+    let counts = counted(|counts, _, made| {
+        if allot(&made.bytes, ROOM).number != 0 {
+            return;
+        }
+        let fields = common::fields(&made.bytes);
+        let text = |at: usize| std::str::from_utf8(fields[at].1).unwrap();
+        let (s, edges) = (text(2), [text(3), text(4), text(5)]);
+        let real = s.parse().is_ok_and(|s: u32| (3_000..=12_000).contains(&s));
+        if real && edges == ["10.000", "10.000", "5.000"] {
+            counts.add("silver in yuan".to_string());
+        }
+        for (tag, value) in &fields {
+            let value = std::str::from_utf8(value).unwrap();
+            let price = value.split(' ').next().unwrap();
+            if b"SAB".contains(tag) && ends.contains(&price) {
+                let name = if *tag == b'S' { "S" } else { "trade" };
+                counts.add(format!("{name} {price}"));
+            }
+        }
+    });
+    counts.at_least(3_000, &["silver in yuan".to_string()]);
+    counts.at_least(50, &names("S", &ends));
+    counts.at_least(500, &names("trade", &ends));
+}
+
+/// Which field the refusals stand at: decimals that are wrong in S and in trades with either X, X itself wrong, X where
+/// another term is due, and the other way round.
+#[test]
+fn decimals_are_damaged_in_every_field() {
+    let counts = counted(|counts, _, made| {
+        let answer = allot(&made.bytes, ROOM);
+        let Some(&tag) = made.bytes.get(answer.place as usize) else {
+            return;
+        };
+        let (number, tag) = (answer.number, char::from(tag));
+        if matches!(made.kind, "X replaced" | "X elsewhere") {
+            counts.add(format!("{} gave {number} at {tag}", made.kind));
+        }
+        if matches!(made.kind, "other decimals" | "price replaced") && number > 0 {
+            let x = made.bytes.get(7).map_or(' ', |&x| char::from(x));
+            counts.add(format!("{} X {x} gave {number} at {tag}", made.kind));
+        }
+    });
+    counts.at_least(20, &names("X replaced gave 5 at", &["X", "S"]));
+    counts.at_least(20, &names("X elsewhere gave 3 at", &["X", "S"]));
+    for kind in ["other decimals", "price replaced"] {
+        for x in ["0", "2"] {
+            let prefix = format!("{kind} X {x} gave 5 at");
+            counts.at_least(20, &names(&prefix, &["S", "A", "B"]));
+        }
+    }
+}
+
+/// At an edge, or beside it by no more than one fen or yuan of the total.
 fn nearness(distance: i128) -> Option<&'static str> {
     match distance {
         0 => Some("at"),
@@ -135,7 +226,8 @@ fn both_sides_of_every_edge_are_reached() {
             let worked = naive::work(&made.bytes);
             for (edge, distance) in worked.people.iter().flat_map(|one| &one.distances) {
                 if let Some(near) = nearness(*distance) {
-                    counts.add(format!("{near} {edge}"));
+                    let x = decimals(&made.bytes);
+                    counts.add(format!("X {x} {near} {edge}"));
                 }
             }
             for _ in 0..worked.settled_by_code {
@@ -143,16 +235,18 @@ fn both_sides_of_every_edge_are_reached() {
             }
         }
     });
-    for near in ["at", "above", "below"] {
-        counts.at_least(200, &names(near, &["L", "U", "V", "0"]));
+    for x in ["X 0", "X 2"] {
+        for near in ["at", "above", "below"] {
+            counts.at_least(200, &names(&format!("{x} {near}"), &["L", "U", "V", "0"]));
+        }
     }
     counts.at_least(500, &["ties settled by code".to_string()]);
 }
 
-/// The lots of all `B` fields.
-fn lots_bought(fields: &[(u8, &[u8])]) -> u64 {
-    let bought = fields.iter().filter(|(tag, _)| *tag == b'B');
-    let lots = bought.map(|(_, value)| {
+/// The lots of all `B` fields, or of all `A` fields.
+fn lots_traded(fields: &[(u8, &[u8])], side: u8) -> u64 {
+    let of_side = fields.iter().filter(|(tag, _)| *tag == side);
+    let lots = of_side.map(|(_, value)| {
         let text = std::str::from_utf8(value).unwrap();
         text.split(' ').nth(1).unwrap().parse::<u64>().unwrap()
     });
@@ -176,8 +270,12 @@ fn sizes_and_counts_at_their_edges_are_reached() {
         counts.add(format!("{} of {}", made.kind, tagged("C")));
         counts.add(format!("{} with {} 000", made.kind, tagged("AB") / 1_000));
         let listing = String::from_utf8(listing(&made.bytes)).unwrap();
-        if lots_bought(&fields) > 1_000_000_000 {
-            counts.add("bought past 1,000,000,000".to_string());
+        let traded = lots_traded(&fields, b'A').max(lots_traded(&fields, b'B'));
+        if traded > 1_000_000_000 {
+            counts.add("traded past 1,000,000,000".to_string());
+        }
+        if traded > i32::MAX as u64 {
+            counts.add("traded past 31 bits".to_string());
         }
         for line in listing.lines().take(2) {
             counts.add(format!("{} in {}", line.len(), &line[..5]));
@@ -186,7 +284,8 @@ fn sizes_and_counts_at_their_edges_are_reached() {
     counts.at_least(10, &names("customer count of", &[0, 255, 256, 257]));
     counts.at_least(10, &names("bytes", &[59_999, 60_000, 60_001]));
     counts.at_least(10, &names("many trades with", &["1 000", "2 000"]));
-    counts.at_least(5, &["bought past 1,000,000,000".to_string()]);
+    counts.at_least(5, &["traded past 1,000,000,000".to_string()]);
+    counts.at_least(1, &["traded past 31 bits".to_string()]);
     // Lines as long as nine digits after `total ` and `left ` make them.
     counts.at_least(5, &["15 in total".to_string(), "14 in left ".to_string()]);
 }
@@ -376,5 +475,5 @@ fn the_same_seed_makes_the_same_books() {
 fn the_first_1000_books_are_the_known_ones() {
     // A change of the generator changes this sum; change it here only on purpose, since
     // books named by seed and index elsewhere are then other books.
-    assert_eq!(checksum(1, 1_000), 317_257_982_900_494_803);
+    assert_eq!(checksum(1, 1_000), 14_316_795_708_090_569_937);
 }

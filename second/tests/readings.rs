@@ -7,8 +7,8 @@ use common::{book, field, listed, listed_bytes, report, GOLD, GOLD_UP};
 use second::allot;
 use second::division::{divide, Member};
 
-/// Gold terms are 37 bytes, so the first customer is at 37.
-const FIRST: usize = 37;
+/// Gold terms are 41 bytes, so the first customer is at 41.
+const FIRST: usize = 41;
 
 /// 256 customers without positions, 16 to 18 bytes each.
 fn full() -> String {
@@ -18,27 +18,30 @@ fn full() -> String {
 #[test]
 fn reading_1_a_comma_in_the_length_bytes_is_no_comma() {
     let ones = "1".repeat(0x2c);
-    assert_eq!(listed(&format!("DD;S{ones};Z")), "refused 5 at 4\n");
+    assert_eq!(listed(&format!("DD;X2;S{ones};Z")), "refused 5 at 8\n");
     let ones = "1".repeat(0x2c00);
-    assert_eq!(listed(&format!("DD;S{ones};Z")), "refused 5 at 4\n");
+    assert_eq!(listed(&format!("DD;X2;S{ones};Z")), "refused 5 at 8\n");
     let with_comma = format!("{},", "1".repeat(0x2b));
-    assert_eq!(listed(&format!("DD;S{with_comma};Z")), "refused 4 at 4\n");
+    assert_eq!(
+        listed(&format!("DD;X2;S{with_comma};Z")),
+        "refused 4 at 8\n"
+    );
 }
 
 #[test]
 fn reading_2_a_wrong_tag_with_a_cut_value_is_2() {
     assert_eq!(listed_bytes(b"X\0\x02D"), "refused 2 at 0\n");
     assert_eq!(listed_bytes(b"X\0\x01D"), "refused 3 at 0\n");
-    let mut cut = book("DD");
+    let mut cut = book("DD;X2");
     cut.extend_from_slice(b"X\0\x09400.00");
-    assert_eq!(listed_bytes(&cut), "refused 2 at 4\n");
+    assert_eq!(listed_bytes(&cut), "refused 2 at 8\n");
 }
 
 #[test]
 fn reading_3_bytes_after_z_are_3_at_the_first() {
     for more in [b"Z".as_slice(), b"Z\0", b"Z\0\0", b"\n", b"C\0\x05A"] {
         let bytes = [book(&format!("{GOLD}Z")), more.to_vec()].concat();
-        assert_eq!(listed_bytes(&bytes), "refused 3 at 40\n");
+        assert_eq!(listed_bytes(&bytes), "refused 3 at 44\n");
     }
 }
 
@@ -85,31 +88,43 @@ fn reading_5_rule_9_comes_before_10() {
 #[test]
 fn reading_6_the_order_of_terms_is_fixed() {
     assert_eq!(
-        listed("DD;L8.000;S400.00;U8.000;V4.000;Z"),
+        listed("DD;X2;L8.000;S400.00;U8.000;V4.000;Z"),
+        "refused 3 at 8\n"
+    );
+    assert_eq!(
+        listed("DD;S400.00;X2;L8.000;U8.000;V4.000;Z"),
         "refused 3 at 4\n"
+    );
+    assert_eq!(
+        listed("X2;DD;S400.00;L8.000;U8.000;V4.000;Z"),
+        "refused 3 at 0\n"
     );
     assert_eq!(
         listed("S400.00;DD;L8.000;U8.000;V4.000;Z"),
         "refused 3 at 0\n"
     );
     assert_eq!(
-        listed("DD;S400.00;L8.000;V4.000;U8.000;Z"),
-        "refused 3 at 21\n"
+        listed("DD;X2;S400.00;L8.000;V4.000;U8.000;Z"),
+        "refused 3 at 25\n"
     );
-    assert_eq!(listed("DD;S400.00;L8.000;U8.000;Z"), "refused 3 at 29\n");
+    assert_eq!(listed("DD;X2;S400.00;L8.000;U8.000;Z"), "refused 3 at 33\n");
 }
 
 #[test]
-fn reading_6_a_comma_in_d_c_or_z_is_5() {
+fn reading_6_a_comma_in_d_x_c_or_z_is_5() {
     assert_eq!(
-        listed("D,;S400.00;L8.000;U8.000;V4.000;Z"),
+        listed("D,;X2;S400.00;L8.000;U8.000;V4.000;Z"),
         "refused 5 at 0\n"
     );
     assert_eq!(
-        listed(&format!("{GOLD}CA,B;K0;H0;Q0;Z")),
-        "refused 5 at 37\n"
+        listed("DD;X,;S400.00;L8.000;U8.000;V4.000;Z"),
+        "refused 5 at 4\n"
     );
-    assert_eq!(listed(&format!("{GOLD}Z,")), "refused 5 at 37\n");
+    assert_eq!(
+        listed(&format!("{GOLD}CA,B;K0;H0;Q0;Z")),
+        "refused 5 at 41\n"
+    );
+    assert_eq!(listed(&format!("{GOLD}Z,")), "refused 5 at 41\n");
 }
 
 #[test]
@@ -120,14 +135,14 @@ fn reading_7_without_a_net_position_trades_are_judged_and_ignored() {
         listed(&format!("{GOLD}CA;K5;H5;Q0;B999.00 1@;A1.00 1@;Z")),
         none
     );
-    assert_eq!(listed(&format!("{GOLD}CA;K5;H5;Q6;Z")), "refused 8 at 49\n");
+    assert_eq!(listed(&format!("{GOLD}CA;K5;H5;Q6;Z")), "refused 8 at 53\n");
     assert_eq!(
         listed(&format!("{GOLD}CA;K5;H5;Q5;B9,00 1@;Z")),
-        "refused 4 at 53\n"
+        "refused 4 at 57\n"
     );
     assert_eq!(
         listed(&format!("{GOLD}CA;K5;H5;Q5;B9.00 0@;Z")),
-        "refused 5 at 53\n"
+        "refused 5 at 57\n"
     );
 }
 
@@ -196,7 +211,15 @@ fn reading_11_everyone_else_is_n_also_with_q_above_0() {
 #[test]
 fn reading_12_trades_may_sum_to_more_than_two_thousand_million_lots() {
     let trades = "A0.01 1000000@;".repeat(2_066);
-    let text = format!("DD;S0.01;L8.000;U8.000;V4.000;CA;K0;H1000000;Q0;{trades}Z");
+    let text = format!("DD;X2;S0.01;L8.000;U8.000;V4.000;CA;K0;H1000000;Q0;{trades}Z");
+    assert!((59_972..=60_000).contains(&book(&text).len()));
+    assert_eq!(listed(&text), "total 0\nleft 0\nA N 0\n");
+}
+
+#[test]
+fn reading_12_in_yuan_trades_may_sum_to_more_lots_than_31_bits_hold() {
+    let trades = "A1 1000000@;".repeat(2_305);
+    let text = format!("DD;X0;S1;L8.000;U8.000;V4.000;CA;K0;H1000000;Q0;{trades}Z");
     assert!((59_972..=60_000).contains(&book(&text).len()));
     assert_eq!(listed(&text), "total 0\nleft 0\nA N 0\n");
 }
@@ -222,7 +245,7 @@ fn reading_12_total_and_residue_may_have_nine_digits() {
 #[test]
 fn reading_12_the_largest_gain_at_the_largest_rates_is_exact() {
     let listing = listed(
-        "DU;S50000.00;L99.999;U99.999;V99.998;\
+        "DU;X2;S50000.00;L99.999;U99.999;V99.998;\
          CA;K1000000;H0;Q0;B0.50 1000000@;CB;K1000000;H0;Q0;B0.51 1000000@;\
          CC;K1000000;H0;Q0;B1.01 1000000@;CD;K0;H1000000;Q1000000;A0.50 1000000@;\
          CE;K0;H1000000;Q1000000;A0.01 1000000@;Z",

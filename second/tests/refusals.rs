@@ -18,6 +18,7 @@ fn refused(text: &str) -> String {
 fn in_term(tag: char, value: &str) -> String {
     let terms = [
         ('D', "D"),
+        ('X', "2"),
         ('S', "400.00"),
         ('L', "8.000"),
         ('U', "99.999"),
@@ -70,15 +71,15 @@ fn number_2_where_a_field_must_begin() {
     assert_eq!(listed_bytes(b"D\0"), "refused 2 at 0\n");
     assert_eq!(listed_bytes(b"D\0\x01"), "refused 2 at 0\n");
     assert_eq!(listed_bytes(b"D\0\x01D"), "refused 2 at 4\n");
-    assert_eq!(refused(GOLD), "2 at 37");
-    assert_eq!(refused(&format!("{GOLD}{GOOD}")), "2 at 53");
+    assert_eq!(refused(GOLD), "2 at 41");
+    assert_eq!(refused(&format!("{GOLD}{GOOD}")), "2 at 57");
 }
 
 #[test]
 fn number_2_or_3_at_every_cut_of_a_book() {
     let whole = book(&format!("{GOLD}CA;K1;H0;Q1;B440.00 1@;Z"));
     assert!(is_accepted(&listed_bytes(&whole)));
-    let begins = [0, 4, 13, 21, 29, 37, 41, 45, 49, 53, 78];
+    let begins = [0, 4, 8, 17, 25, 33, 41, 45, 49, 53, 57, 82];
     for cut in 0..whole.len() {
         let at = begins.iter().rev().find(|&&begin| begin <= cut).unwrap();
         assert_eq!(listed_bytes(&whole[..cut]), format!("refused 2 at {at}\n"));
@@ -95,25 +96,25 @@ fn number_2_reads_the_high_length_byte() {
 fn number_3_a_tag_that_does_not_belong_there() {
     assert_eq!(refused("ZD"), "3 at 0");
     assert_eq!(refused("d"), "3 at 0");
-    assert_eq!(refused(&format!("{GOLD}V4.000;Z")), "3 at 37");
-    assert_eq!(refused(&format!("{GOLD}K0;Z")), "3 at 37");
-    assert_eq!(refused(&format!("{GOLD}B400.00 1@;Z")), "3 at 37");
-    assert_eq!(refused(&format!("{GOLD}CA;H0;K0;Q0;Z")), "3 at 41");
-    assert_eq!(refused(&format!("{GOLD}CA;CB;K0;H0;Q0;Z")), "3 at 41");
-    assert_eq!(refused(&format!("{GOLD}CA;K0;H0;Z")), "3 at 49");
-    assert_eq!(refused(&format!("{GOLD}{GOOD}Q0;Z")), "3 at 53");
-    assert_eq!(refused(&format!("{GOLD}{GOOD}b400.00 1;Z")), "3 at 53");
+    assert_eq!(refused(&format!("{GOLD}V4.000;Z")), "3 at 41");
+    assert_eq!(refused(&format!("{GOLD}K0;Z")), "3 at 41");
+    assert_eq!(refused(&format!("{GOLD}B400.00 1@;Z")), "3 at 41");
+    assert_eq!(refused(&format!("{GOLD}CA;H0;K0;Q0;Z")), "3 at 45");
+    assert_eq!(refused(&format!("{GOLD}CA;CB;K0;H0;Q0;Z")), "3 at 45");
+    assert_eq!(refused(&format!("{GOLD}CA;K0;H0;Z")), "3 at 53");
+    assert_eq!(refused(&format!("{GOLD}{GOOD}Q0;Z")), "3 at 57");
+    assert_eq!(refused(&format!("{GOLD}{GOOD}b400.00 1;Z")), "3 at 57");
 }
 
 #[test]
 fn number_3_comes_before_4_and_5_of_the_field() {
     assert_eq!(refused("X8,000"), "3 at 0");
-    assert_eq!(refused("DD;L8,000;Z"), "3 at 4");
+    assert_eq!(refused("DD;X2;L8,000;Z"), "3 at 8");
 }
 
 #[test]
 fn number_4_a_comma_in_each_of_its_fields() {
-    for (tag, place) in [('S', 4), ('L', 13), ('U', 21), ('V', 30)] {
+    for (tag, place) in [('S', 8), ('L', 17), ('U', 25), ('V', 34)] {
         for value in [
             ",", "8,000", "400,00", "4,00.00", "8.000,", ",8.000", "x,y", "+5,",
         ] {
@@ -139,8 +140,8 @@ fn number_4_a_comma_in_each_of_its_fields() {
         "400.00 1,20250431 2400",
         "x,",
     ] {
-        assert_eq!(in_trade(value), "refused 4 at 53\n");
-        assert_eq!(refused(&format!("{GOLD}{GOOD}A{value};Z")), "4 at 53");
+        assert_eq!(in_trade(value), "refused 4 at 57\n");
+        assert_eq!(refused(&format!("{GOLD}{GOOD}A{value};Z")), "4 at 57");
     }
 }
 
@@ -181,7 +182,7 @@ fn number_5_prices() {
         "000400.00",
         "5.00\0",
     ] {
-        assert_eq!(in_term('S', value), "refused 5 at 4\n", "{value}");
+        assert_eq!(in_term('S', value), "refused 5 at 8\n", "{value}");
     }
 }
 
@@ -258,7 +259,7 @@ fn number_5_trades() {
         "400.00-1@",
         "100000.00 1@",
     ] {
-        assert_eq!(in_trade(value), "refused 5 at 53\n", "{value}");
+        assert_eq!(in_trade(value), "refused 5 at 57\n", "{value}");
     }
 }
 
@@ -309,7 +310,7 @@ fn number_5_a_trade_without_a_stamp_or_with_too_much_of_one() {
         "400.00 1 2025011/ 1000",
         "400.00 1 2025011: 1000",
     ] {
-        assert_eq!(in_trade(value), "refused 5 at 53\n", "{value}");
+        assert_eq!(in_trade(value), "refused 5 at 57\n", "{value}");
     }
 }
 
@@ -338,7 +339,7 @@ fn number_5_days_of_the_calendar_from_2000_to_2099() {
         "20251032", "20251131", "20251232", "20251301", "20252001", "20259999", "20970229",
         "21000101", "21000228", "21000229", "99991231", "99999999",
     ] {
-        assert_eq!(on(bad), "refused 5 at 53\n", "{bad}");
+        assert_eq!(on(bad), "refused 5 at 57\n", "{bad}");
     }
 }
 
@@ -375,7 +376,7 @@ fn number_5_times_of_the_clock() {
         "0060", "0099", "0160", "1960", "1999", "2360", "2399", "2400", "2401", "2459", "9900",
         "9999",
     ] {
-        assert_eq!(at(bad), "refused 5 at 53\n", "{bad}");
+        assert_eq!(at(bad), "refused 5 at 57\n", "{bad}");
     }
     let good = (0..=9_999).filter(|&time| second::stamp::Stamp::of(20_250_115, time).is_some());
     assert_eq!(good.count(), 24 * 60);
@@ -386,11 +387,11 @@ fn number_5_stamps_are_judged_on_the_other_side_and_without_a_position() {
     // A holds 1 long, and its sale is on the other side; B holds nothing; C has enough in its newest trade.
     for bad in ["20250431 1000", "20250115 2400", "20250115 1000 "] {
         let other = format!("{GOLD}CA;K1;H0;Q0;B400.00 1@;A400.00 1 {bad};Z");
-        assert_eq!(refused(&other), "5 at 78");
+        assert_eq!(refused(&other), "5 at 82");
         let none = format!("{GOLD}CB;K0;H0;Q0;B400.00 1@;A400.00 1 {bad};Z");
-        assert_eq!(refused(&none), "5 at 78");
+        assert_eq!(refused(&none), "5 at 82");
         let old = format!("{GOLD}CC;K1;H0;Q0;B400.00 1@;B400.00 1 {bad};Z");
-        assert_eq!(refused(&old), "5 at 78");
+        assert_eq!(refused(&old), "5 at 82");
     }
 }
 
@@ -412,42 +413,44 @@ fn number_5_codes() {
         "[",
         "A\0",
     ] {
-        assert_eq!(code(bad), "refused 5 at 37\n", "{bad}");
+        assert_eq!(code(bad), "refused 5 at 41\n", "{bad}");
     }
 }
 
 #[test]
 fn number_5_z_has_no_value_and_that_is_judged_before_what_follows() {
-    assert_eq!(refused(&format!("{GOLD}Z0")), "5 at 37");
-    assert_eq!(refused(&format!("{GOLD}Z0;Z")), "5 at 37");
-    assert_eq!(refused(&format!("{GOLD}Z;Z")), "3 at 40");
+    assert_eq!(refused(&format!("{GOLD}Z0")), "5 at 41");
+    assert_eq!(refused(&format!("{GOLD}Z0;Z")), "5 at 41");
+    assert_eq!(refused(&format!("{GOLD}Z;Z")), "3 at 44");
 }
 
 #[test]
 fn number_6_u_is_greater_than_v() {
-    assert_eq!(refused("DD;S400.00;L8.000;U4.000;V4.000;Z"), "6 at 29");
-    assert_eq!(refused("DD;S400.00;L8.000;U4.000;V4.001;Z"), "6 at 29");
-    assert!(is_accepted(&listed("DD;S400.00;L8.000;U4.001;V4.000;Z")));
-    assert!(is_accepted(&listed("DD;S400.00;L8.000;U10.000;V9.999;Z")));
+    assert_eq!(refused("DD;X2;S400.00;L8.000;U4.000;V4.000;Z"), "6 at 33");
+    assert_eq!(refused("DD;X2;S400.00;L8.000;U4.000;V4.001;Z"), "6 at 33");
+    assert!(is_accepted(&listed("DD;X2;S400.00;L8.000;U4.001;V4.000;Z")));
+    assert!(is_accepted(&listed(
+        "DD;X2;S400.00;L8.000;U10.000;V9.999;Z"
+    )));
     // 4 and 5 of V come first.
-    assert_eq!(refused("DD;S400.00;L8.000;U4.000;V8,000;Z"), "4 at 29");
-    assert_eq!(refused("DD;S400.00;L8.000;U4.000;V8.00;Z"), "5 at 29");
+    assert_eq!(refused("DD;X2;S400.00;L8.000;U4.000;V8,000;Z"), "4 at 33");
+    assert_eq!(refused("DD;X2;S400.00;L8.000;U4.000;V8.00;Z"), "5 at 33");
 }
 
 #[test]
 fn number_7_at_the_second_c() {
-    assert_eq!(refused(&format!("{GOLD}{GOOD}{GOOD}Z")), "7 at 53");
+    assert_eq!(refused(&format!("{GOLD}{GOOD}{GOOD}Z")), "7 at 57");
     assert_eq!(
         refused(&format!("{GOLD}{GOOD}CB;K0;H0;Q0;CA;K,")),
-        "7 at 69"
+        "7 at 73"
     );
     assert!(is_accepted(&listed(&format!("{GOLD}{GOOD}CAA;K0;H0;Q0;Z"))));
 }
 
 #[test]
 fn number_8_q_against_the_locked_side() {
-    assert_eq!(refused(&format!("{GOLD}CA;K1;H9;Q2;Z")), "8 at 49");
-    assert_eq!(refused(&format!("{GOLD_UP}CA;K9;H1;Q2;Z")), "8 at 49");
+    assert_eq!(refused(&format!("{GOLD}CA;K1;H9;Q2;Z")), "8 at 53");
+    assert_eq!(refused(&format!("{GOLD_UP}CA;K9;H1;Q2;Z")), "8 at 53");
     assert!(is_accepted(&listed(&format!(
         "{GOLD}CA;K2;H9;Q2;A400.00 7@;Z"
     ))));
@@ -455,28 +458,28 @@ fn number_8_q_against_the_locked_side() {
         "{GOLD_UP}CA;K9;H2;Q2;B400.00 7@;Z"
     ))));
     // 4 and 5 of Q come first, and 8 comes before the trades and 9.
-    assert_eq!(refused(&format!("{GOLD}CA;K1;H0;Q2,;Z")), "4 at 49");
-    assert_eq!(refused(&format!("{GOLD}CA;K1;H0;Q02;Z")), "5 at 49");
-    assert_eq!(refused(&format!("{GOLD}CA;K1;H0;Q2;B4,00 1@;Z")), "8 at 49");
+    assert_eq!(refused(&format!("{GOLD}CA;K1;H0;Q2,;Z")), "4 at 53");
+    assert_eq!(refused(&format!("{GOLD}CA;K1;H0;Q02;Z")), "5 at 53");
+    assert_eq!(refused(&format!("{GOLD}CA;K1;H0;Q2;B4,00 1@;Z")), "8 at 53");
 }
 
 #[test]
 fn number_9_at_the_customers_own_c() {
     assert_eq!(
         refused(&format!("{GOLD}CA;K2;H0;Q0;B400.00 1@;Z")),
-        "9 at 37"
+        "9 at 41"
     );
     assert_eq!(
         refused(&format!("{GOLD}CA;K2;H0;Q0;A400.00 2@;Z")),
-        "9 at 37"
+        "9 at 41"
     );
     assert_eq!(
         refused(&format!("{GOLD}CA;K0;H2;Q0;B400.00 2@;A400.00 1@;Z")),
-        "9 at 37"
+        "9 at 41"
     );
     assert_eq!(
         refused(&format!("{GOLD}{GOOD}CB;K1;H0;Q0;CC;K0;H0;Q0;Z")),
-        "9 at 53"
+        "9 at 57"
     );
     // Only the net must be reached, by the sum of several trades.
     assert!(is_accepted(&listed(&format!(
@@ -484,7 +487,7 @@ fn number_9_at_the_customers_own_c() {
     ))));
     assert_eq!(
         refused(&format!("{GOLD}CA;K5;H2;Q0;B400.00 1@;B400.00 1@;Z")),
-        "9 at 37"
+        "9 at 41"
     );
 }
 
@@ -495,9 +498,10 @@ fn a_book_of_terms_and_z_is_accepted() {
 
 #[test]
 fn the_first_broken_field_decides() {
-    assert_eq!(refused("DX;S4,00;Z"), "5 at 0");
-    assert_eq!(refused("DD;S4,00;L8;Z"), "4 at 4");
-    assert_eq!(refused(&format!("{GOLD}CA;Kx;H1,0;Q0;Z")), "5 at 41");
+    assert_eq!(refused("DX;X1;S4,00;Z"), "5 at 0");
+    assert_eq!(refused("DD;X1;S4,00;Z"), "5 at 4");
+    assert_eq!(refused("DD;X2;S4,00;L8;Z"), "4 at 8");
+    assert_eq!(refused(&format!("{GOLD}CA;Kx;H1,0;Q0;Z")), "5 at 45");
 }
 
 /// Document 01's own example has a report of 73 bytes.
@@ -529,7 +533,7 @@ fn number_11_says_the_length_needed() {
 #[test]
 fn number_11_comes_last() {
     let answer = allot(&book(&format!("{GOLD}Z0")), 0);
-    assert_eq!((answer.number, answer.place, answer.length), (5, 37, 0));
+    assert_eq!((answer.number, answer.place, answer.length), (5, 41, 0));
     let answer = allot(&[0; 60_001], 0);
     assert_eq!((answer.number, answer.place, answer.length), (1, 0, 0));
 }
@@ -552,11 +556,11 @@ fn on_refusal_no_byte_is_altered() {
     let refused = [
         (example(), 72, (11, 73, 0)),
         (example(), 0, (11, 73, 0)),
-        (book("DD;S4,00"), 500, (4, 4, 0)),
+        (book("DD;X2;S4,00"), 500, (4, 8, 0)),
         (
             book(&format!("{GOLD}CA;K2;H0;Q0;B400.00 1@;Z")),
             500,
-            (9, 37, 0),
+            (9, 41, 0),
         ),
     ];
     for (book, room, want) in refused {

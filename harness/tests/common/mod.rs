@@ -165,6 +165,92 @@ fn with_first_minute(book: &[u8], first: u32) -> Vec<u8> {
     })
 }
 
+/// A book as far as it has fields, with S and the price of every trade replaced; bytes that are no field stay at the end. Its own X
+/// is handed on.
+fn with_prices(book: &[u8], other: impl Fn(&str, &str) -> String) -> Vec<u8> {
+    let Some(x) = values(book, b'X').into_iter().next() else {
+        return book.to_vec();
+    };
+    let x = String::from_utf8_lossy(&x).into_owned();
+    let replaced = |_: usize, value: &[u8]| match std::str::from_utf8(value) {
+        Ok(text) => {
+            let (price, rest) = text.split_at(text.find(' ').unwrap_or(text.len()));
+            (other(&x, price) + rest).into_bytes()
+        }
+        Err(_) => value.to_vec(),
+    };
+    let end = fields(book).last().map_or(0, |last| last.end);
+    let mut changed = book[..end].to_vec();
+    for tag in *b"SBA" {
+        changed = with_values(&changed, tag, replaced);
+    }
+    [&changed, &book[end..]].concat()
+}
+
+/// A wrong program: the decimals of a price are not held to X. A price of the other kind is as many fen, or yuan, as it has digits for.
+pub fn decimals_not_compared(book: &[u8], report: &mut [u8]) -> Answer {
+    let other = with_prices(book, |x, price| {
+        let all_digits = |text: &str| !text.is_empty() && text.bytes().all(|b| b.is_ascii_digit());
+        match (x, price.split_once('.')) {
+            ("0", Some((yuan, fen))) if all_digits(yuan) && all_digits(fen) && fen.len() == 2 => {
+                format!("{yuan}{fen}")
+            }
+            ("2", None) if all_digits(price) && price.len() > 2 => {
+                let (yuan, fen) = price.split_at(price.len() - 2);
+                format!("{yuan}.{fen}")
+            }
+            _ => price.to_string(),
+        }
+    });
+    right(&other, report)
+}
+
+/// A wrong program: `1` is taken for a good X, as if it were `2`.
+pub fn x_of_1_taken(book: &[u8], report: &mut [u8]) -> Answer {
+    let other = with_values(book, b'X', |_, value| match value {
+        b"1" => b"2".to_vec(),
+        _ => value.to_vec(),
+    });
+    let end = fields(book).last().map_or(0, |last| last.end);
+    right(&[&other, &book[end..]].concat(), report)
+}
+
+/// A wrong program: with X 0 a price may begin with zeros.
+pub fn leading_zeros_taken(book: &[u8], report: &mut [u8]) -> Answer {
+    let other = with_prices(book, |x, price| match x {
+        "0" => price.trim_start_matches('0').to_string(),
+        _ => price.to_string(),
+    });
+    right(&other, report)
+}
+
+/// A wrong program: S is in fen whatever X says, so that in a book with X 0 it is a hundredth of what it is.
+pub fn s_always_in_fen(book: &[u8], report: &mut [u8]) -> Answer {
+    judged_as(book, report, |book| {
+        let whole = values(book, b'X') == [b"0"];
+        with_values(book, b'S', |_, value| match value.len() {
+            3.. if whole => value[..value.len() - 2].to_vec(),
+            _ => value.to_vec(),
+        })
+    })
+}
+
+/// A wrong program: X is wanted after S. With the two in each other's place the right program does it.
+pub fn x_after_s(book: &[u8], report: &mut [u8]) -> Answer {
+    let fields = fields(book);
+    let turned = match fields.as_slice() {
+        [first, one, other, ..] => [
+            &book[first.clone()],
+            &book[other.clone()],
+            &book[one.clone()],
+            &book[other.end..],
+        ]
+        .concat(),
+        _ => book.to_vec(),
+    };
+    right(&turned, report)
+}
+
 fn stamped(day: &str, clock: u32) -> String {
     format!("{day} {:02}{:02}", clock / 60, clock % 60)
 }

@@ -1,4 +1,4 @@
-//! Customers at each edge of the unit gain, and one fen beside it.
+//! Customers at each edge of the unit gain, and one fen or yuan beside it.
 
 use super::codes;
 use super::draft::{Draft, Terms, MOST_LOTS};
@@ -44,7 +44,7 @@ fn edge(rng: &mut Rng, terms: &Terms) -> Position {
     } else {
         lots(rng)
     };
-    // Beside the edge: one fen of the total, or one fen of every price.
+    // Beside the edge: one fen or yuan of the total, or one of every price.
     let each = i64::from(net);
     let gain = terms.reaching(rate, net) + rng.pick(&[0, 0, 0, -1, -1, 1, -each, each]);
     Position {

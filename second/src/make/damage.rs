@@ -2,6 +2,7 @@
 
 use super::damage_bytes as bytes;
 use super::damage_draft as drafts;
+use super::damage_prices as priced;
 use super::damage_stamps as stamped;
 use super::draft::Draft;
 use super::edges;
@@ -17,7 +18,7 @@ enum Damage {
 }
 use Damage::{Bytes, Draft as Numbers};
 
-const DAMAGES: [(u64, (&str, Damage)); 29] = [
+const DAMAGES: [(u64, (&str, Damage)); 33] = [
     (
         6,
         ("edges out of order", Numbers(drafts::edges_out_of_order)),
@@ -55,6 +56,10 @@ const DAMAGES: [(u64, (&str, Damage)); 29] = [
     (5, ("stamp misspelt", Bytes(stamped::stamp_misspelt))),
     (6, ("parts of a trade", Bytes(stamped::stamp_parts))),
     (5, ("blanks of a trade", Bytes(stamped::stamp_blanks))),
+    (6, ("X replaced", Bytes(priced::x_replaced))),
+    (5, ("X elsewhere", Bytes(priced::x_elsewhere))),
+    (8, ("other decimals", Bytes(priced::other_decimals))),
+    (6, ("price replaced", Bytes(priced::price_replaced))),
     (
         1,
         ("past the most bytes", Bytes(bytes::past_the_most_bytes)),

@@ -8,7 +8,7 @@ use std::ops::Range;
 
 use super::rng::Rng;
 
-/// All tags of the base format and some that are none.
+/// All tags of a book and some that are none.
 const TAGS: &[u8] = b"DSLUVCKHQBAZXITREOczb \0\xff";
 
 /// Values at the ends of a form and just outside it; some break 4 and 5 at once.
@@ -62,6 +62,18 @@ const VALUES: &[&[u8]] = &[
     b"0.00 1 20250115 1000",
     b"99999.99 1 20250115 1000",
     b"20250115 1000",
+    b"1",
+    b"2",
+    b"400",
+    b"8000",
+    b"8,000",
+    b"8000 1 20250115 1000",
+    b"8,000 1 20250115 1000",
+    b"08000 1 20250115 1000",
+    b"8000. 1 20250115 1000",
+    b"0 1 20250115 1000",
+    b"9999999 1 20250115 1000",
+    b"10000000 1 20250115 1000",
     b"D",
     b"U",
     b"d",
@@ -150,7 +162,7 @@ pub fn point_to_comma(rng: &mut Rng, bytes: &mut Vec<u8>) {
     }
 }
 
-/// A comma put into any value, D, C and Z too, in place of a byte or between two.
+/// A comma put into any value, D, X, C and Z too, in place of a byte or between two.
 pub fn comma_in_value(rng: &mut Rng, bytes: &mut Vec<u8>) {
     change_value(rng, bytes, |rng, value| {
         let place = rng.place(value.len() + 1);
@@ -267,7 +279,7 @@ pub fn past_the_most_bytes(rng: &mut Rng, bytes: &mut Vec<u8>) {
 }
 
 /// The fields from the front, as far as the bytes can be taken for fields.
-fn fields(bytes: &[u8]) -> Vec<Range<usize>> {
+pub fn fields(bytes: &[u8]) -> Vec<Range<usize>> {
     let mut fields = Vec::new();
     let mut at = 0;
     while at + 3 <= bytes.len() {

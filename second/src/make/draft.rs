@@ -3,7 +3,8 @@
 
 use super::stamps::Stamp;
 
-/// The largest figures of document 01.
+/// The largest figures of document 01. By request [3] a price in yuan may be as many yuan as
+/// one in fen may be fen.
 pub const MOST_PRICE: u32 = 9_999_999;
 pub const MOST_RATE: u32 = 99_999;
 pub const MOST_LOTS: u32 = 1_000_000;
@@ -11,7 +12,7 @@ pub const MOST_LOTS: u32 = 1_000_000;
 #[derive(Clone, Copy, Debug, PartialEq, Eq)]
 pub struct Trade {
     pub bought: bool,
-    /// In fen.
+    /// In fen or yuan, as the terms say.
     pub price: u32,
     pub lots: u32,
     pub stamp: Stamp,
@@ -44,7 +45,9 @@ pub struct Group {
 pub struct Terms {
     /// Locked at the lower limit.
     pub down: bool,
-    /// S, in fen.
+    /// X: 2 where prices are in fen, 0 where they are in yuan.
+    pub decimals: u32,
+    /// S, in fen or yuan.
     pub settlement: u32,
     /// L, U and V, in thousandths of a percent.
     pub loss_edge: u32,
@@ -68,7 +71,7 @@ impl Draft {
         };
         book.terms(&self.terms);
         for group in &self.groups {
-            book.group(group);
+            book.group(group, self.terms.decimals);
         }
         book.field(b'Z', |_| ());
         book.bytes
@@ -84,20 +87,21 @@ impl Book {
     fn terms(&mut self, terms: &Terms) {
         let lock = if terms.down { b'D' } else { b'U' };
         self.field(b'D', |value| value.push(lock));
-        self.field(b'S', |value| point(value, terms.settlement, 2));
+        self.field(b'X', |value| digits(value, terms.decimals, 1));
+        self.field(b'S', |value| point(value, terms.settlement, terms.decimals));
         self.field(b'L', |value| point(value, terms.loss_edge, 3));
         self.field(b'U', |value| point(value, terms.tier1_edge, 3));
         self.field(b'V', |value| point(value, terms.tier2_edge, 3));
     }
 
-    fn group(&mut self, group: &Group) {
+    fn group(&mut self, group: &Group, decimals: u32) {
         self.field(b'C', |value| value.extend_from_slice(&group.code));
         self.field(b'K', |value| digits(value, group.long, 1));
         self.field(b'H', |value| digits(value, group.short, 1));
         self.field(b'Q', |value| digits(value, group.unfilled, 1));
         for trade in &group.trades {
             let tag = if trade.bought { b'B' } else { b'A' };
-            self.field(tag, |value| write_trade(value, trade));
+            self.field(tag, |value| write_trade(value, trade, decimals));
         }
     }
 
@@ -111,8 +115,8 @@ impl Book {
     }
 }
 
-fn write_trade(value: &mut Vec<u8>, trade: &Trade) {
-    point(value, trade.price, 2);
+fn write_trade(value: &mut Vec<u8>, trade: &Trade, decimals: u32) {
+    point(value, trade.price, decimals);
     value.push(b' ');
     digits(value, trade.lots, 1);
     value.push(b' ');
@@ -121,12 +125,14 @@ fn write_trade(value: &mut Vec<u8>, trade: &Trade) {
     digits(value, trade.stamp.clock(), 4);
 }
 
-/// A number with its last `decimals` digits after a point.
-fn point(value: &mut Vec<u8>, number: u32, decimals: usize) {
-    let one = 10_u32.pow(decimals as u32);
+/// A number with its last `decimals` digits after a point; for none there is no point.
+fn point(value: &mut Vec<u8>, number: u32, decimals: u32) {
+    let one = 10_u32.pow(decimals);
     digits(value, number / one, 1);
-    value.push(b'.');
-    digits(value, number % one, decimals);
+    if decimals > 0 {
+        value.push(b'.');
+        digits(value, number % one, decimals as usize);
+    }
 }
 
 /// A number in digits, with leading zeros up to `least` digits.

@@ -153,6 +153,7 @@ fn largest_figures(rng: &mut Rng) -> Draft {
         .collect();
     let terms = Terms {
         down: rng.one_in(2),
+        decimals: rng.pick(&[0, 2]),
         settlement: rng.pick(&[1, 2, MOST_PRICE / 2, MOST_PRICE - 1, MOST_PRICE]),
         loss_edge: rng.pick(&rates),
         tier1_edge,

@@ -10,7 +10,7 @@ pub struct Position {
     pub on_locked_side: bool,
     /// 0 for none.
     pub net: u32,
-    /// In fen, signed.
+    /// In fen or yuan, signed.
     pub total: i64,
 }
 
@@ -71,7 +71,7 @@ impl Group {
 }
 
 impl Terms {
-    /// The gain that reaches this rate of S for this many lots, in fen: the smallest
+    /// The gain that reaches this rate of S for this many lots, in the unit of S: the smallest
     /// total with total x 100,000 at least rate x S x net.
     pub fn reaching(&self, rate: u32, net: u32) -> i64 {
         let edge = i64::from(rate) * i64::from(self.settlement) * i64::from(net);

@@ -12,6 +12,7 @@ mod codes;
 mod damage;
 mod damage_bytes;
 mod damage_draft;
+mod damage_prices;
 mod damage_stamps;
 mod draft;
 mod edges;

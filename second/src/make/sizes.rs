@@ -4,18 +4,42 @@ use super::draft::{Draft, Group, Trade, MOST_LOTS, MOST_PRICE};
 use super::rng::Rng;
 use super::whole;
 
-/// The bytes that all trade fields have: tag and length, a point, three blanks, day and time.
-const FIXED: usize = 3 + 1 + 3 + 8 + 4;
-/// The shortest and the longest trade field: `0.01 1` and `99999.99 1000000` with the rest.
-const SHORTEST: usize = FIXED + 3 + 1;
-const LONGEST: usize = FIXED + 7 + 7;
+/// How many bytes a trade field may have.
+#[derive(Clone, Copy)]
+struct Bytes {
+    /// The bytes that all of them have: tag and length, the point if any, three blanks, day and time.
+    fixed: usize,
+    /// The fewest digits of a price: `0.01` has three of them and `1` has one. The most are seven.
+    least_price: usize,
+}
+
+impl Bytes {
+    fn of(decimals: u32) -> Self {
+        let (point, least_price) = if decimals == 0 { (0, 1) } else { (1, 3) };
+        Bytes {
+            fixed: 3 + point + 3 + 8 + 4,
+            least_price,
+        }
+    }
+
+    /// A price as short as can be, and 1 lot.
+    fn shortest(self) -> usize {
+        self.fixed + self.least_price + 1
+    }
+
+    /// A price of seven digits, and 1000000 lots.
+    fn longest(self) -> usize {
+        self.fixed + 7 + 7
+    }
+}
 
 /// A book of 59,999, 60,000 or 60,001 bytes, whole but for its size.
 pub fn exact(rng: &mut Rng) -> Draft {
     let count = rng.between(1, 8) as usize;
     let mut draft = whole::of_count(rng, count);
     let size = rng.pick(&[59_999, 60_000, 60_001]);
-    let padding = padding(rng, size - draft.bytes().len());
+    let bytes = Bytes::of(draft.terms.decimals);
+    let padding = padding(rng, bytes, size - draft.bytes().len());
     // More trades never take away what a position needs, wherever they stand.
     let trades = &mut draft.groups[rng.place(count)].trades;
     let place = rng.place(trades.len() + 1);
@@ -25,26 +49,28 @@ pub fn exact(rng: &mut Rng) -> Draft {
 
 /// Trades that take exactly this many bytes, some tens of thousands. First their number is
 /// drawn, since the longest trade is not twice as long as the shortest.
-fn padding(rng: &mut Rng, mut gap: usize) -> Vec<Trade> {
-    let count = rng.between(gap.div_ceil(LONGEST) as u32, (gap / SHORTEST) as u32) as usize;
+fn padding(rng: &mut Rng, bytes: Bytes, mut gap: usize) -> Vec<Trade> {
+    let (shortest, longest) = (bytes.shortest(), bytes.longest());
+    let count = rng.between(gap.div_ceil(longest) as u32, (gap / shortest) as u32) as usize;
     let mut trades = Vec::with_capacity(count);
     for after in (0..count).rev() {
         // What stays must be as much as the trades after this one can take.
-        let least = SHORTEST.max(gap.saturating_sub(LONGEST * after));
-        let most = LONGEST.min(gap - SHORTEST * after);
+        let least = shortest.max(gap.saturating_sub(longest * after));
+        let most = longest.min(gap - shortest * after);
         let size = rng.between(least as u32, most as u32) as usize;
-        trades.push(trade_of_size(rng, size));
+        trades.push(trade_of_size(rng, bytes, size));
         gap -= size;
     }
     trades
 }
 
-/// A trade whose field has this many bytes: the fixed ones, 3 to 7 digits of a price and 1
+/// A trade whose field has this many bytes: the fixed ones, up to 7 digits of a price and 1
 /// to 7 of lots.
-fn trade_of_size(rng: &mut Rng, size: usize) -> Trade {
-    let digits = (size - FIXED) as u32;
-    let of_price = rng.between(3.max(digits.saturating_sub(7)), 7.min(digits - 1));
-    let least_price = if of_price == 3 {
+fn trade_of_size(rng: &mut Rng, bytes: Bytes, size: usize) -> Trade {
+    let digits = (size - bytes.fixed) as u32;
+    let fewest = bytes.least_price as u32;
+    let of_price = rng.between(fewest.max(digits.saturating_sub(7)), 7.min(digits - 1));
+    let least_price = if of_price == fewest {
         1
     } else {
         10_u32.pow(of_price - 1)
@@ -71,19 +97,25 @@ pub fn many_trades(rng: &mut Rng) -> Draft {
     let count = rng.between(1, 4) as usize;
     let mut draft = whole::of_count(rng, count);
     let double = 2 * draft.terms.settlement;
-    // Trades of at most 29 bytes, or of just 23: the longest runs stay below 60,000 bytes.
-    // With a million lots in each, a run sums to as many as 2,000,000,000 lots.
-    let (most_price, least_lots, most_lots, most_trades) = rng.pick(&[
-        (double.min(MOST_PRICE), 1, 600, 2_000),
-        (double.min(999), 1, MOST_LOTS, 2_000),
-        (double.min(999), MOST_LOTS, MOST_LOTS, 2_000),
-        (double.min(999), 1, 9, 2_500),
+    // Trades of at most 29 bytes, or of just 23, in yuan 20: the longest runs stay below 60,000
+    // bytes. With a million lots in each, a run sums to as many as 2,000,000,000 lots, and in
+    // yuan, where such a trade may have 26 bytes, to more than 31 bits hold.
+    let (shortest, (least, most), most_of_them) = if draft.terms.decimals == 0 {
+        (9, (2_150, 2_230), 2_850)
+    } else {
+        (999, (1_000, 2_000), 2_500)
+    };
+    let (most_price, least_lots, most_lots, least_trades, most_trades) = rng.pick(&[
+        (double.min(MOST_PRICE), 1, 600, 1_000, 2_000),
+        (double.min(999), 1, MOST_LOTS, 1_000, 2_000),
+        (double.min(shortest), MOST_LOTS, MOST_LOTS, least, most),
+        (double.min(shortest), 1, 9, 1_000, most_of_them),
     ]);
     let run = Run {
         most_price,
         least_lots,
         most_lots,
-        least_trades: 1_000,
+        least_trades,
         most_trades,
     };
     let deep = rng.place(count);

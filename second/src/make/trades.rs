@@ -9,9 +9,9 @@ pub struct Wanted {
     pub long: bool,
     /// Above 0.
     pub net: u32,
-    /// In fen, signed.
+    /// In fen or yuan, signed.
     pub total: i64,
-    /// S, in fen.
+    /// S, in the same.
     pub settlement: u32,
 }
 
@@ -26,7 +26,7 @@ pub struct Depth {
     pub other: u32,
 }
 
-/// A part of the net position: lots, and their gain in fen for each lot.
+/// A part of the net position: lots, and their gain in fen or yuan for each lot.
 type Part = (u32, i64);
 
 /// A customer's trades, oldest first. Those that count gain exactly the wanted total,
@@ -64,7 +64,7 @@ pub fn loose_trades(rng: &mut Rng, wanted: Wanted, depth: Depth) -> Vec<Trade> {
 }
 
 /// One or two parts with the wanted total: the whole part of total / net for each
-/// lot, and one fen more for as many lots as the division leaves over.
+/// lot, and one more for as many lots as the division leaves over.
 fn even_parts(wanted: Wanted) -> Vec<Part> {
     let each = wanted.total.div_euclid(i64::from(wanted.net));
     let more = wanted.total.rem_euclid(i64::from(wanted.net)) as u32;

@@ -66,31 +66,36 @@ pub fn of_count(rng: &mut Rng, count: usize) -> Draft {
     Draft { terms, groups }
 }
 
-/// Terms of gold, of silver, or any.
+/// Terms of gold, with prices in fen; of silver, mostly in whole yuan per kilogram; or any.
 pub fn terms(rng: &mut Rng) -> Terms {
     let down = rng.one_in(2);
-    let (settlement, loss_edge, tier1_edge, tier2_edge) = match rng.below(4) {
-        0 | 1 => (rng.between(30_000, 60_000), 8_000, 8_000, 4_000),
-        2 => (rng.between(300_000, 900_000), 10_000, 10_000, 5_000),
-        _ => {
-            let tier1_edge = rng.between(2, MOST_RATE);
-            let tier2_edge = rng.between(1, tier1_edge - 1);
-            let most_price = rng.pick(&[100, 10_000, 1_000_000, MOST_PRICE]);
-            (
-                rng.between(1, most_price),
-                rng.between(1, MOST_RATE),
-                tier1_edge,
-                tier2_edge,
-            )
-        }
+    let (decimals, (settlement, loss_edge, tier1_edge, tier2_edge)) = match rng.below(8) {
+        0..=2 => (2, (rng.between(30_000, 60_000), 8_000, 8_000, 4_000)),
+        3 | 4 => (0, (rng.between(3_000, 12_000), 10_000, 10_000, 5_000)),
+        5 => (2, (rng.between(300_000, 1_200_000), 10_000, 10_000, 5_000)),
+        _ => (rng.pick(&[0, 2]), any_terms(rng)),
     };
     Terms {
         down,
+        decimals,
         settlement,
         loss_edge,
         tier1_edge,
         tier2_edge,
     }
+}
+
+/// S, L, U and V of any size, U above V.
+fn any_terms(rng: &mut Rng) -> (u32, u32, u32, u32) {
+    let tier1_edge = rng.between(2, MOST_RATE);
+    let tier2_edge = rng.between(1, tier1_edge - 1);
+    let most_price = rng.pick(&[100, 10_000, 1_000_000, MOST_PRICE]);
+    (
+        rng.between(1, most_price),
+        rng.between(1, MOST_RATE),
+        tier1_edge,
+        tier2_edge,
+    )
 }
 
 fn wished(rng: &mut Rng, terms: &Terms, code: Vec<u8>, depth: Depth) -> Group {

@@ -4,10 +4,14 @@
 
 pub mod naive;
 
-/// Terms of document 01's cases: gold edges, S 400.00, locked down. 37 bytes.
-pub const GOLD: &str = "DD;S400.00;L8.000;U8.000;V4.000;";
+/// Terms of document 01's cases: gold edges, S 400.00, locked down. 41 bytes.
+pub const GOLD: &str = "DD;X2;S400.00;L8.000;U8.000;V4.000;";
 /// The same, locked up.
-pub const GOLD_UP: &str = "DU;S400.00;L8.000;U8.000;V4.000;";
+pub const GOLD_UP: &str = "DU;X2;S400.00;L8.000;U8.000;V4.000;";
+/// Silver edges, S 8000 in whole yuan, locked down. 41 bytes.
+pub const SILVER: &str = "DD;X0;S8000;L10.000;U10.000;V5.000;";
+/// The same, locked up.
+pub const SILVER_UP: &str = "DU;X0;S8000;L10.000;U10.000;V5.000;";
 
 /// The day and time that `@` stands for in a trade: one for all, so that the order is the
 /// book's. With the two blanks they are 14 bytes.

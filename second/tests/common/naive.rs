@@ -77,7 +77,7 @@ pub fn by_stamp_turned(one: &Traded, other: &Traded) -> bool {
     }
 }
 
-/// A figure with its point left out.
+/// A figure with its point left out. All prices of a book have as many decimals, so that each is as many of one unit.
 fn figure(value: &[u8]) -> i128 {
     let text = String::from_utf8(value.to_vec()).expect("a figure");
     text.replace('.', "").parse().expect("a figure")
@@ -92,8 +92,8 @@ pub fn work_by(newer: Newer, book: &[u8]) -> Worked {
     let all = fields(book);
     let terms = Terms {
         locked_long: all[0].1 == b"D",
-        settlement: figure(all[1].1),
-        edges: [figure(all[2].1), figure(all[3].1), figure(all[4].1)],
+        settlement: figure(all[2].1),
+        edges: [figure(all[3].1), figure(all[4].1), figure(all[5].1)],
         newer,
     };
     let starts: Vec<usize> = (0..all.len()).filter(|&at| all[at].0 == b'C').collect();

@@ -7,7 +7,7 @@ pub struct Book {
     pub bytes: Vec<u8>,
 }
 
-/// An opening trade: its tag, price in fen and lots, and how many minutes after the first minute of the first trading day.
+/// An opening trade: its tag, price in fen or yuan and lots, and how many minutes after the first minute of the first trading day.
 #[derive(Clone, Copy)]
 struct Trade {
     side: u8,
@@ -41,8 +41,18 @@ enum Kind {
     Flat,
 }
 
+/// Whose prices and edges a book has.
+#[derive(Clone, Copy)]
+enum Metal {
+    /// Prices in fen, X 2.
+    Gold,
+    /// Prices in whole yuan, X 0.
+    Silver,
+}
+
 /// Customers of one shape: how many, how many bytes in all, the kind of each, and how many different lots its trades have.
 struct Shape {
+    metal: Metal,
     customers: u64,
     bytes: u64,
     kind: fn(u64) -> Kind,
@@ -51,12 +61,22 @@ struct Shape {
 }
 
 /// S 400.00 with gold's edges, locked at the lower limit.
-const TERMS: [(u8, &str); 5] = [
+const TERMS: [(u8, &str); 6] = [
     (b'D', "D"),
+    (b'X', "2"),
     (b'S', "400.00"),
     (b'L', "8.000"),
     (b'U', "8.000"),
     (b'V', "4.000"),
+];
+/// S 8000 with silver's edges, locked at the lower limit.
+const SILVER_TERMS: [(u8, &str); 6] = [
+    (b'D', "D"),
+    (b'X', "0"),
+    (b'S', "8000"),
+    (b'L', "10.000"),
+    (b'U', "10.000"),
+    (b'V', "5.000"),
 ];
 const LONGEST: u64 = 60_000;
 const LETTERS: &[u8; 36] = b"0123456789ABCDEFGHIJKLMNOPQRSTUVWXYZ";
@@ -69,6 +89,7 @@ pub fn all() -> Vec<Book> {
         named("typical", typical(Order::InTime)),
         named("typical, by clock", typical(Order::ByClock)),
         named("typical, shuffled", typical(Order::Shuffled)),
+        named("typical, silver", typical_silver()),
         named("dense", dense(Order::InTime)),
         named("dense, shuffled", dense(Order::Shuffled)),
         named("one tier", one_tier(Order::InTime)),
@@ -100,6 +121,7 @@ pub fn growing() -> Vec<Book> {
         named(
             name,
             shaped(&Shape {
+                metal: Metal::Gold,
                 customers: bytes / 234,
                 bytes,
                 kind: typical_kind,
@@ -184,6 +206,7 @@ fn sold(price: u64, lots: u64) -> Trade {
 
 fn typical(order: Order) -> Vec<u8> {
     shaped(&Shape {
+        metal: Metal::Gold,
         customers: 256,
         bytes: 40_000,
         kind: typical_kind,
@@ -192,9 +215,22 @@ fn typical(order: Order) -> Vec<u8> {
     })
 }
 
+/// The typical book of silver: as many bytes, prices in whole yuan.
+fn typical_silver() -> Vec<u8> {
+    shaped(&Shape {
+        metal: Metal::Silver,
+        customers: 256,
+        bytes: 40_000,
+        kind: typical_kind,
+        lots: 30,
+        order: Order::InTime,
+    })
+}
+
 /// Every customer pending or in a tier. Trades of the same lots make equal weights, and so equal remainders.
 fn dense(order: Order) -> Vec<u8> {
     shaped(&Shape {
+        metal: Metal::Gold,
         customers: 256,
         bytes: 59_900,
         kind: dense_kind,
@@ -206,6 +242,7 @@ fn dense(order: Order) -> Vec<u8> {
 /// 255 customers in tier 1, against one who is pending.
 fn one_tier(order: Order) -> Vec<u8> {
     shaped(&Shape {
+        metal: Metal::Gold,
         customers: 256,
         bytes: 30_000,
         kind: |who| match who {
@@ -281,7 +318,7 @@ fn full_stores(order: Order) -> Vec<u8> {
                 // Three digits.
                 lots: 100 + mixed(1_000 * who + n) % 900,
                 minute: minute(n),
-                ..trade(kind, mixed(1_000 * who + n), 1)
+                ..trade(Metal::Gold, kind, mixed(1_000 * who + n), 1)
             })
             .collect();
         put_in_order(order, &mut trades, who);
@@ -342,7 +379,7 @@ fn dense_kind(who: u64) -> Kind {
 }
 
 fn shaped(shape: &Shape) -> Vec<u8> {
-    let mut book = terms();
+    let mut book = terms_of(shape.metal);
     let start = book.len() as u64;
     for who in 0..shape.customers {
         // Each customer has trades up to its part of the bytes; the last leaves room for Z.
@@ -356,30 +393,63 @@ fn shaped(shape: &Shape) -> Vec<u8> {
 fn put_shaped(book: &mut Vec<u8>, shape: &Shape, who: u64, end: u64) {
     let kind = (shape.kind)(who);
     let bytes = end.saturating_sub(book.len() as u64 + 3 * 4 + 12 + 8);
-    let mut trades: Vec<_> = (0..(bytes / 27).max(2))
+    let mut trades: Vec<_> = (0..(bytes / shape.metal.trade_bytes()).max(2))
         .map(|n| Trade {
             // A trade every three or four hours: by the clock most customers have a night after a day.
             minute: 8_000 * who + 217 * n + mixed(n) % 60,
-            ..trade(kind, mixed(1_000 * who + n), shape.lots)
+            ..trade(shape.metal, kind, mixed(1_000 * who + n), shape.lots)
         })
         .collect();
     put_in_order(shape.order, &mut trades, who);
     let opened: u64 = trades.iter().map(|trade| trade.lots).sum();
     // Some of the oldest lots are closed again, a different number for each.
     let held = opened - mixed(who) % opened.min(9);
-    put_customer(book, &code(who), position(kind, held, who), &trades);
+    let held = position(kind, held, who);
+    put_customer_of(shape.metal, book, &code(who), held, &trades);
+}
+
+impl Metal {
+    /// What a trade with two digits of lots takes: `433.00 12` and `8830 12` with the rest.
+    fn trade_bytes(self) -> u64 {
+        match self {
+            Metal::Gold => 27,
+            Metal::Silver => 24,
+        }
+    }
+
+    /// A price in fen as it is written, or one in yuan.
+    fn written(self, price: u64) -> String {
+        match self {
+            Metal::Gold => format!("{}.{:02}", price / 100, price % 100),
+            Metal::Silver => price.to_string(),
+        }
+    }
+
+    /// The prices that leave no doubt of a customer's kind: the lowest, and how many.
+    fn prices(self, kind: Kind) -> (u64, u64) {
+        match (self, kind) {
+            (Metal::Gold, Kind::SmallLoss) => (40_100, 2_000),
+            (Metal::Gold, Kind::Tier(2)) => (41_700, 1_400),
+            (Metal::Gold, Kind::Tier(3)) => (40_100, 1_400),
+            (Metal::Gold, Kind::NoGain) => (38_000, 1_900),
+            (Metal::Gold, _) => (43_300, 2_000),
+            (Metal::Silver, Kind::SmallLoss) => (8_020, 400),
+            (Metal::Silver, Kind::Tier(2)) => (8_420, 360),
+            (Metal::Silver, Kind::Tier(3)) => (8_020, 360),
+            (Metal::Silver, Kind::NoGain) => (7_600, 380),
+            (Metal::Silver, _) => (8_830, 400),
+        }
+    }
 }
 
 /// A trade that leaves no doubt of the customer's kind, in the first minute.
-fn trade(kind: Kind, n: u64, lots: u64) -> Trade {
-    let (side, price) = match kind {
-        Kind::Pending | Kind::LargePending | Kind::Flat => (b'B', 43_300 + n % 2_000),
-        Kind::SmallLoss => (b'B', 40_100 + n % 2_000),
-        Kind::Tier(1) => (b'A', 43_300 + n % 2_000),
-        Kind::Tier(2) => (b'A', 41_700 + n % 1_400),
-        Kind::Tier(_) => (b'A', 40_100 + n % 1_400),
-        Kind::NoGain => (b'A', 38_000 + n % 1_900),
+fn trade(metal: Metal, kind: Kind, n: u64, lots: u64) -> Trade {
+    let side = match kind {
+        Kind::Pending | Kind::LargePending | Kind::Flat | Kind::SmallLoss => b'B',
+        Kind::Tier(_) | Kind::NoGain => b'A',
     };
+    let (lowest, many) = metal.prices(kind);
+    let price = lowest + n % many;
     let size = match kind {
         Kind::LargePending => 100,
         _ => 1,
@@ -425,22 +495,34 @@ fn mixed(n: u64) -> u64 {
 }
 
 fn terms() -> Vec<u8> {
+    terms_of(Metal::Gold)
+}
+
+fn terms_of(metal: Metal) -> Vec<u8> {
     let mut book = Vec::new();
-    for (tag, value) in TERMS {
+    let terms = match metal {
+        Metal::Gold => TERMS,
+        Metal::Silver => SILVER_TERMS,
+    };
+    for (tag, value) in terms {
         put(&mut book, tag, value);
     }
     book
 }
 
 fn put_customer(book: &mut Vec<u8>, code: &str, held: [u64; 3], trades: &[Trade]) {
+    put_customer_of(Metal::Gold, book, code, held, trades);
+}
+
+fn put_customer_of(metal: Metal, book: &mut Vec<u8>, code: &str, held: [u64; 3], trades: &[Trade]) {
     put(book, b'C', code);
     put(book, b'K', &held[0].to_string());
     put(book, b'H', &held[1].to_string());
     put(book, b'Q', &held[2].to_string());
     for trade in trades {
-        let (yuan, fen) = (trade.price / 100, trade.price % 100);
+        let price = metal.written(trade.price);
         let (day, time) = stamp(trade.minute);
-        let value = format!("{yuan}.{fen:02} {} {day:08} {time:04}", trade.lots);
+        let value = format!("{price} {} {day:08} {time:04}", trade.lots);
         put(book, trade.side, &value);
     }
 }
