@@ -14,17 +14,18 @@ def field(tag, value=""):
     return tag.encode() + bytes(divmod(len(value), 256)) + value.encode()
 
 
-def terms(d="D", s="400.00", l="8.000", u="8.000", v="4.000"):
-    return field("D", d) + field("S", s) + field("L", l) + field("U", u) + field("V", v)
+def terms(d="D", x="2", s="400.00", l="8.000", u="8.000", v="4.000"):
+    return field("D", d) + field("X", x) + field("S", s) + field("L", l) + field("U", u) + field("V", v)
 
 
 def customer(code, k="0", h="0", q="0", *trades):
     return field("C", code) + field("K", k) + field("H", h) + field("Q", q) + b"".join(field(t, v) for t, v in trades)
 
 
-def rows(heading):
-    """The cells of the first table under a heading, without its two top lines."""
-    table = re.search(rf"^## {heading}$.*?^(\|.*?)\n\n", PAGE, re.M | re.S).group(1)
+def rows(heading, nth=0):
+    """The cells of the first table under a heading, or of a later one, without its two top lines."""
+    section = re.search(rf"^## {heading}$.*?(?=^## )", PAGE, re.M | re.S).group(0)
+    table = re.findall(r"(?:^\|.*\n)+", section, re.M)[nth].strip()
     return [[cell.strip() for cell in line.strip("|").split("|")] for line in table.split("\n")[2:]]
 
 
@@ -35,6 +36,8 @@ def hexed(heading):
 
 
 GOLD, END = terms(), field("Z")
+YUAN = terms(x="0", s="400")
+SILVER = terms("D", "0", "8000", "10.000", "10.000", "5.000")
 STAMP = " 20250115 1000"
 LACKING = customer("A", "5", "0", "0", ("B", "400.00 4" + STAMP))
 CROWD = [customer(str(1000 + i)) for i in range(256)]
@@ -45,8 +48,8 @@ REFUSED = [
     bytes(60000),
     GOLD[:-1],
     GOLD,
-    GOLD + b"X\0\1",
-    GOLD + b"X\0\0",
+    GOLD + b"Y\0\1",
+    GOLD + b"Y\0\0",
     GOLD + field("V", "4.000"),
     GOLD + field("B", "400.00 1" + STAMP),
     GOLD + field("C", "A") + field("H", "0"),
@@ -55,6 +58,16 @@ REFUSED = [
     GOLD + field("Z", "a") + b"a",
     [terms(s="400,00") + END, terms(s="x,") + END],
     terms(d=",") + END,
+    GOLD[:4] + GOLD[8:] + END,
+    GOLD[:4] + GOLD[8:17] + GOLD[4:8] + GOLD[17:] + END,
+    GOLD[:8] + GOLD[4:] + END,
+    [terms(x="1", s="400.0") + END, terms(x="02") + END, terms(x="") + END],
+    terms(x=",") + END,
+    terms(x="0") + END,
+    terms(s="400") + END,
+    terms(x="0", s="8,000") + END,
+    GOLD + customer("A", "0", "0", "0", ("B", "400 1" + STAMP)) + END,
+    YUAN + customer("A", "0", "0", "0", ("B", "400.00 1" + STAMP)) + END,
     GOLD + field("C", "A" * 44) + END,
     terms(u="4.000") + END,
     terms(u="4.000", v="4.0") + END,
@@ -77,40 +90,49 @@ REFUSED = [
 ]
 
 
+def traded(tag, value):
+    """A customer without a position, with one trade."""
+    return customer("A", "0", "0", "0", (tag, value))
+
+
 def figures():
-    """Good and bad figures: a book for each, and what it must come to."""
-    places = {"price": 4, "rate": 13, "lots": 41, "day": 53, "time": 53}
+    """Good and bad figures: books for each, with its place in them, and what they must come to. A price is tried in S and in a trade."""
     table = re.search(r"^\| \| Good .*?\n\n", PAGE, re.M | re.S).group(0).strip().split("\n")[2:]
     for line in table:
         kind, good, bad = [cell.strip() for cell in line.strip("|").split("|")]
         make = {
-            "price": lambda v: terms(s=v) + END,
-            "rate": lambda v: terms(l=v) + END,
-            "lots": lambda v: GOLD + customer("A", v, v, "0") + END,
-            "day": lambda v: GOLD + customer("A", "0", "0", "0", ("B", f"400.00 1 {v} 1000")) + END,
-            "time": lambda v: GOLD + customer("A", "0", "0", "0", ("A", f"400.00 1 20250115 {v}")) + END,
+            "X": lambda v: [(4, terms(x=v, s="400" if v == "0" else "400.00"))],
+            "price, X 2": lambda v: [(8, terms(s=v)), (57, GOLD + traded("B", f"{v} 1{STAMP}"))],
+            "price, X 0": lambda v: [(8, terms(x="0", s=v)), (54, YUAN + traded("A", f"{v} 1{STAMP}"))],
+            "rate": lambda v: [(17, terms(l=v))],
+            "lots": lambda v: [(45, GOLD + customer("A", v, v, "0"))],
+            "day": lambda v: [(57, GOLD + traded("B", f"400.00 1 {v} 1000"))],
+            "time": lambda v: [(57, GOLD + traded("A", f"400.00 1 20250115 {v}"))],
         }[kind]
         for v in re.findall(r"`([^`]*)`", good):
-            yield make(v), "total 0\nleft 0\n" + ("A N 0\n" if places[kind] > 37 else "")
-        for v in re.findall(r"`([^`]*)`", bad):
-            yield make(v), f"refused {4 if ',' in v else 5} at {places[kind]}\n"
+            for place, book in make(v):
+                yield book + END, "total 0\nleft 0\n" + ("A N 0\n" if place > 41 else "")
+        for v in re.findall(r"`([^`]*)`", bad) + [""] * ("no bytes" in bad):
+            for place, book in make(v):
+                yield book + END, f"refused {4 if ',' in v else 5} at {place}\n"
     for v in "400.00  1" + STAMP, f"400.00 1{STAMP} ", "400.00 1 20250115", "400.00 1", "400.00 0" + STAMP:
         assert f"`{v}`" in PAGE, v
-        yield GOLD + customer("A", "0", "0", "0", ("B", v)) + END, "refused 5 at 53\n"
+        yield GOLD + traded("B", v) + END, "refused 5 at 57\n"
 
 
 def standings():
-    """Section 9: a position of 10 lots for each line, its total gain, and its standing."""
-    for position, price, total, times, standing in rows("9. Standing"):
-        fen = round(float(price) * 100)
-        long = position.startswith("long")
-        gain = (40000 - fen if long else fen - 40000) * 10
-        assert (total, times) == (f"{gain:,}", f"{gain * 100000:,}"), (price, gain)
-        q = "0" if not long or "Q 0" in position else "10"
-        trade = ("B" if long else "A", f"{price} 10{STAMP}")
-        group = customer("A", "10" if long else "0", "0" if long else "10", q, trade)
-        left = 10 if standing[0] == "P" else 0
-        yield GOLD + group + END, f"total 0\nleft {left}\nA {standing[0]} 0\n"
+    """Section 9: a position of 10 lots for each line, its total gain, and its standing; gold in fen, then silver in yuan."""
+    for nth, terms_of, s in (0, GOLD, 40000), (1, SILVER, 8000):
+        for position, price, total, times, standing in rows("9. Standing", nth):
+            number = int(price.replace(".", ""))
+            long = position.startswith("long")
+            gain = (s - number if long else number - s) * 10
+            assert (total, times) == (f"{gain:,}", f"{gain * 100000:,}"), (price, gain)
+            q = "0" if not long or "Q 0" in position else "10"
+            trade = ("B" if long else "A", f"{price} 10{STAMP}")
+            group = customer("A", "10" if long else "0", "0" if long else "10", q, trade)
+            left = 10 if standing[0] == "P" else 0
+            yield terms_of + group + END, f"total 0\nleft {left}\nA {standing[0]} 0\n"
     worked = re.search(r"^Worked, S 400.00, K 17, H 2, (.*?): the net", PAGE, re.M | re.S).group(1)
     trades = re.findall(r"([BA])\s`(.*?)`", worked)
     assert len(trades) == 3, trades
@@ -139,7 +161,7 @@ def divisions():
 
 def whole_book():
     """The book byte by byte: its places, and its listing in section 14. The report's places and length too."""
-    for heading, length in ("A book byte by byte", 124), ("12. The report", 34):
+    for heading, length in ("A book byte by byte", 128), ("12. The report", 34):
         at = 0
         for place, part in hexed(heading):
             assert place == at and len(part) == 3 + part[1] * 256 + part[2], (heading, place)

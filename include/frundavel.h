@@ -20,9 +20,9 @@ extern "C" {
 #endif
 
 /* The version. CHANGELOG.md of the source tree says what changed with each. */
-#define FRUNDAVEL_VERSION "0.4.0"
+#define FRUNDAVEL_VERSION "0.5.0"
 #define FRUNDAVEL_VERSION_MAJOR 0
-#define FRUNDAVEL_VERSION_MINOR 4
+#define FRUNDAVEL_VERSION_MINOR 5
 #define FRUNDAVEL_VERSION_PATCH 0
 
 /* A book has at most so many bytes; a longer one is refused with number 1. Reading one byte more than this is enough to see it. */
@@ -77,7 +77,8 @@ enum frundavel_number {
  *        3  the tag doesn't belong there, or bytes follow Z                 the tag; the first byte after Z
  *        4  a comma stands in S, L, U, V, K, H, Q, B or A                   the field's tag
  *        5  a value is otherwise not of its form or range; so is a trade    the field's tag
- *           without day and time
+ *           without day and time, and a price with other decimals than X
+ *           says
  *        6  U is not greater than V                                         the tag of V
  *        7  a customer code was given before                                the second C tag
  *        8  Q exceeds K when locked down, or H when locked up               the Q tag
@@ -101,6 +102,8 @@ typedef struct frundavel_answer {
  *   customer in book order C code, E standing (one of P, 1, 2, 3, N) and O offset lots. Numbers are plain digits.
  * - `book` and `report` must not overlap, and must be good for `size` and `room` bytes. A null pointer with length 0 is an empty part.
  *   Any bytes may stand in the book.
+ * - The term X of the book, after D, is one byte and says how many decimals every price has, in S and in trades: `2` as in `400.00`, or
+ *   `0` for whole figures as in `8000`. Before version 0.5.0 there was no X, and a book without it is refused with 3 at place 4.
  * - The value of a trade in the book is a price, lots, the trading day and the time: `400.00 5 20250115 1000`. A customer's trades may
  *   stand in any order. Before version 0.4.0 a trade had neither day nor time, and the order in the book was that of time.
  * - The call keeps nothing, allocates nothing and calls nothing but memcpy, memmove and memset. It may be called from several threads
