@@ -50,13 +50,6 @@ pub const HELD: Form = Form {
     most: 1_000_000,
 };
 
-// Lots in a trade.
-pub const TRADED: Form = Form {
-    decimals: 0,
-    least: 1,
-    most: 1_000_000,
-};
-
 // A price in a book whose prices have so many decimals: 0.01 to 99999.99, or 1 to 9999999.
 pub fn price_form(decimals: usize) -> Form
     ensures { λ r. ⌜ r ≡ priceForm decimals ⌝ }

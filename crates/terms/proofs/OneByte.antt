@@ -1,4 +1,4 @@
--- A value of one byte, and one of another length, against D's two letters.
+-- A value of one byte, and one of another length, against two letters.
 -- Assumes nothing.
 use Prim.Native.Nat.{ℕ, _<_}
 use mathlib.Core.Path.{_≡_, refl}

@@ -10,7 +10,7 @@ use Rattle.rules.specs.declared.Fen.{Fen}
 use Rattle.rules.specs.Refusal as refusal
 use Rattle.rules.specs.Text.{is}
 use Rattle.rules.specs.Opening.{openingOf}
-use Rattle.rules.specs.Fields.{Field, Whole, Cut, fieldsOf}
+use Rattle.rules.specs.Fields.{Field, Cut, fieldsOf}
 use Rattle.rules.specs.Standing.{gainOf}
 use Rattle.laws.specs.Gains.{lotsOn}
 use Rattle.fields.specs.declared.Found.the-variants.{Short}

@@ -5,7 +5,7 @@ use native.Mathlib.Omega.{arith}
 use mathlib.Core.Path.{_≡_, refl, sym, ap, _∙_}
 use mathlib.Core.List.{List, [], _∷_}
 use mathlib.Core.Bool.{Bool}
-use lib.IntN.{ℤ, pos, _+ℤ_, +ℤ-assoc, +ℤ-idr, +ℤ-idl}
+use lib.IntN.{pos, _+ℤ_, +ℤ-assoc, +ℤ-idr, +ℤ-idl}
 use Rattle.rules.specs.declared.Fen.{Fen}
 use Rattle.rules.specs.declared.Trade.{Trade}
 use Rattle.rules.specs.Book.{opened}

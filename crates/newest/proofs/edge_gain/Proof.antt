@@ -1,17 +1,10 @@
 -- `newest::edge_gain` meets its contract: what counts by the edge is the newest lots.
 -- Assumes nothing.
-use mathlib.Core.Path.{_≡_, sym, ap, _∙_}
-use mathlib.Core.List.{[]}
+use mathlib.Core.Path.{_≡_, _∙_}
 use native.Mathlib.Omega.{arith}
 use mir.Syntax.{w64}
 use mir.Val.{toZ, ofZ}
-use Prim.Native.Nat.{ℕ}
 use Rattle.laws.specs.Exact.{small-fits, of-int}
-use Rattle.order.specs.Order.{inFront, arranged}
-use Rattle.order.specs.Trades.{when}
-use Rattle.order.specs.Gains.{gain-of-none}
-use Rattle.trades.specs.Walk.{tradesAt}
-use Rattle.trades.specs.Walk.{newestIn}
 use Rattle.newest.proofs.Joined.{joined}
 use borrow.Author.Needs.{needs}
 use Rattle.newest.proofs.edge_gain.Statement.{statement}

@@ -10,7 +10,6 @@ use lib.IntN.{ℤ, natAbs, _+ℤ_, +ℤ-assoc, +ℤ-idl, +ℤ-idr}
 use mir.Val.{toZ}
 use mir.Syntax.{w64}
 use Rattle.rules.specs.declared.Trade.{Trade}
-use Rattle.rules.specs.Standing.{gainOf}
 use Rattle.laws.specs.Gains.{lotsOn}
 use Rattle.trades.specs.declared.Next.the-variants.{At, End}
 use Rattle.trades.specs.Walk.{tradesAt, Readable, oldestOf, Read}

@@ -24,7 +24,6 @@ use Rattle.laws.specs.Figures.{OpeningWithin, opening-within}
 use Rattle.laws.specs.Gains.{lotsOn}
 use Rattle.fields.specs.Laws.{Stands, stands}
 use Rattle.fields.specs.Reading.{refusedAt}
-use Rattle.trades.specs.declared.Order.{Order}
 use Rattle.trades.specs.declared.TradesAt.the-variants.{Closed, Refused}
 use Rattle.trades.specs.Trades.{opening, noneYet, orderAfter, tradesFrom}
 use Rattle.trades.proofs.Found.{trades-short, trades-found}
