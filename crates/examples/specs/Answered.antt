@@ -1,20 +1,30 @@
 -- Small right answers, each the only one that the published contract of its function allows, beside `Leaves`. A comment says what wrong programs answer there.
 -- Assumes nothing.
-use Prim.Native.Nat.{ℕ, _*_, _^_}
+use Prim.Native.Nat.{ℕ, _+_, _*_, _^_}
 use mathlib.Core.Bool.{true}
-use mathlib.Core.Path.{_≡_, refl, _∙_}
+use mathlib.Core.Path.{_≡_, refl, ap, ap₂, _∙_}
 use mathlib.Core.List.{[], _∷_, _++_}
 use lib.IntN.{ℤ, pos, negℤ}
 use contract.Lifetimes.{Lfts}
 use denote.Ref.{now}
 use denote.Triple.Entry.{Args}
 use denote.Triple.Clauses.{AtExit}
+use Rattle.rules.specs.declared.Form.{Form}
 use Rattle.rules.specs.declared.Lots.{Lots}
+use Rattle.rules.specs.declared.Trade.{Trade}
+use Rattle.rules.specs.declared.Written.{Written}
+use Rattle.rules.specs.declared.Written.the-variants.{Malformed as NoFigure}
+use Rattle.rules.specs.declared.Opening.{Opening}
+use Rattle.rules.specs.declared.Opening.the-variants.{Made}
+use Rattle.rules.specs.declared.Opening.the-variants.{Malformed as NoTrade}
 use Rattle.rules.specs.declared.Position.{Position}
 use Rattle.rules.specs.declared.Terms.{Terms}
 use Rattle.rules.specs.declared.Standing.{Standing}
 use Rattle.rules.specs.declared.Standing.the-variants.{Pending, Neither}
-use Rattle.rules.specs.Figures.{fen, lots, rate}
+use Rattle.rules.specs.Figures.{fen, lots, rate, writtenOf, figureOf}
+use Rattle.rules.specs.Stamp.{stamp, stampOf}
+use Rattle.rules.specs.Opening.{openingOf}
+use Rattle.figures.specs.Good.{made-one}
 use Rattle.rules.specs.Text.{bytes}
 use Rattle.rules.specs.Refusal as refusal
 use Rattle.rules.specs.Codes.{isCode}
@@ -35,6 +45,7 @@ use Rattle.writing.specs.Written.{written}
 use Rattle.report.specs.Sheet.{sheetBytes}
 use Rattle.rules.proofs as rules
 use Rattle.gain.proofs as gain
+use Rattle.figures.proofs as figures
 use Rattle.fields.proofs as fields
 use Rattle.writing.proofs as writing
 use Rattle.cascade.proofs as cascade
@@ -182,3 +193,38 @@ module _ (κs : Lfts 1) (a : Args printing.put_refusal.signature κs) (r : ℕ) 
   pub refusal-put : now (a .0) ≡ bytes "xxxxxxxxxxxxxxxxx" → a .1 .0 ≡ 4 → a .1 .1 .0 ≡ 13 → now (s .0) ≡ bytes "refused 4 at 13\nx"
   unfolding written digits
   refusal-put out number place = h .whole ∙ rw (out, number, place) refl
+
+-- prices up to 9999998
+module _ (κs : Lfts 0) (a : Args figures.price_form.signature κs) (r : Form) (s : AtExit figures.price_form.ended κs) (h : figures.price_form.Reads.Learnt κs a r s) where
+  pub largest-price : r .most ≡ 9_999_999
+  largest-price = ap (λ (f : Form). f .most) h
+
+-- figures of eight digits: 12345678, and 12345678 with two decimals
+module _ (κs : Lfts 1) (a : Args figures.read_written.signature κs) (r : Written) (s : AtExit figures.read_written.ended κs) (h : figures.read_written.Reads.Learnt κs a r s) where
+  pub eight-digits : now (a .0) ≡ bytes "12345678" → r ≡ NoFigure
+  unfolding writtenOf
+  eight-digits e = h ∙ ap writtenOf e
+
+  pub eight-with-decimals : now (a .0) ≡ bytes "123456.78" → r ≡ NoFigure
+  unfolding writtenOf
+  eight-with-decimals e = h ∙ ap writtenOf e
+
+abbrev made : ℕ → ℕ → Trade
+made day minutes = record { bought = true; price = fen 40_000; lots = lots 25; stamp = stamp (day * 1_440 + minutes) }
+
+module _ (κs : Lfts 1) (a : Args figures.read_opening.signature κs) (r : Opening) (s : AtExit figures.read_opening.ended κs) (h : figures.read_opening.Reads.Learnt κs a r s) where
+  -- the day for the hour, and the hour for the day: 20250115 at 1030
+  pub day-and-hour : now (a .0) ≡ bytes "400.00 25 20250110 1530" → a .1 .0 ≡ true → r ≡ Made (made 20_250_110 1_180) 2
+  unfolding openingOf writtenOf figureOf stampOf
+  day-and-hour e f = h ∙ ap₂ (λ v b. openingOf b v) e f
+
+  -- eight digits before the blank
+  pub no-price : now (a .0) ≡ bytes "123456.78 25 20250115 2031" → a .1 .0 ≡ true → r ≡ NoTrade
+  unfolding openingOf writtenOf figureOf stampOf
+  no-price e f = h ∙ ap₂ (λ v b. openingOf b v) e f
+
+-- the day alone, without the time
+module _ (κs : Lfts 1) (a : Args figures.read_again.signature κs) (r : Trade) (s : AtExit figures.read_again.ended κs) (h : figures.read_again.Reads.Learnt κs a r s) where
+  pub day-and-time : now (a .0) ≡ bytes "400.00 25 20250115 2031" → a .1 .0 ≡ true → r ≡ made 20_250_115 41
+  unfolding openingOf writtenOf figureOf stampOf
+  day-and-time e f = made-one (openingOf (a .1 .0) (now (a .0))) r (made 20_250_115 41) (h .0) 2 (h .1) (ap₂ (λ v b. openingOf b v) e f) .0

@@ -8,9 +8,9 @@ use mathlib.Core.List.{List, [], _∷_, _++_}
 use native.Mathlib.Omega.{arith}
 use borrow.Author.Tests.{eqb-true, ltb-true, ltb-false}
 use lib.Dec.{ltb}
-use lib.ListN.{length, take, drop}
+use lib.ListN.{length, drop}
 use Rattle.figures.proofs.Lists.{by-test}
-use lib.Seq.{take-append-seam, drop-append-add}
+use lib.Seq.{drop-append-add}
 use Rattle.rules.specs.Text.{is}
 use Rattle.rules.specs.Figures.{has}
 use Rattle.rules.specs.Opening.{upToBlank, afterBlank}
@@ -22,11 +22,6 @@ blank-inside (x ∷ v) h =
     by-test (is " " x)
     (λ e. simp e (ap (λ (y : ℕ). y ∷ v) (eqb-true x (code " ") e)))
     (λ e. simp e (ap (λ (l : List ℕ). x ∷ l) (blank-inside v (omega (arith, simp e at h)))))
-
-pub up-to-blank : (v : List ℕ) (p : ℕ) → p ≡ length (upToBlank v) → p < length v → take p v ≡ upToBlank v
-up-to-blank v p e h =
-    let u = upToBlank v in
-    ap (λ (n : ℕ). take n v) e ∙ ap (take (length u)) (blank-inside v (omega arith)) ∙ take-append-seam u _
 
 pub after-blank : (v : List ℕ) (p : ℕ) → p ≡ length (upToBlank v) → p < length v → drop (p + 1) v ≡ afterBlank v
 after-blank v p e h =

@@ -25,14 +25,17 @@ dated year m d h k =
     ∙ ap (λ (x : ℕ). isDate year x (n % 100)) (p .1)
     ∙ ap (isDate year m) (p .2)
 
-days-most : (year month : ℕ) → daysIn year month ≤ 31
-days-most year month =
+days : (year month : ℕ) → (28 ≤ daysIn year month) × (daysIn year month ≤ 31)
+days year month =
     by-test (eqb month 2)
-    (λ t. by-test (leap year) (λ u. simp (t, u) (omega arith)) (λ u. simp (t, u) (omega arith)))
+    (λ t. by-test (leap year) (λ u. simp (t, u) (omega arith, omega arith)) (λ u. simp (t, u) (omega arith, omega arith)))
     (λ t.
     by-test (eqb month 4 || eqb month 6 || eqb month 9 || eqb month 11)
-    (λ u. simp (t, u) (omega arith))
-    (λ u. simp (t, u) (omega arith)))
+    (λ u. simp (t, u) (omega arith, omega arith))
+    (λ u. simp (t, u) (omega arith, omega arith)))
+
+pub days-least : (year month : ℕ) → 28 ≤ daysIn year month
+days-least year month = days year month .0
 
 pub record Dated (year month day : ℕ) : Type 0 where
   pub year-least : 2_000 ≤ year
@@ -52,7 +55,7 @@ date-range year m d h =
       year-least = leb-true _ _ (g .0);
       year-most = leb-true _ _ (g .1);
       month-most = leb-true _ _ (e .1);
-      day-most = omega (arith, leb-true d (daysIn year m) (a .1), days-most year m);
+      day-most = omega (arith, leb-true d (daysIn year m) (a .1), days year m .1);
     }
 
 -- 2000 is a leap year, and from there to 2099 every fourth

@@ -8,10 +8,9 @@ use mathlib.Core.List.{List, [], _∷_, _++_}
 use native.Mathlib.Omega.{arith}
 use borrow.Author.Tests.{le-leb, leb-true}
 use lib.Dec.{leb}
-use lib.ListN.{length, take}
+use lib.ListN.{length}
 use Rattle.rules.specs.Figures.{isDigit, allDigits, numberAfter}
-use Rattle.figures.specs.declared.number.Digits.the-variants.{Number}
-use Rattle.figures.specs.Numbers.{DigitOf, run, runNumber, digitsAfter}
+use Rattle.figures.specs.Numbers.{DigitOf, run, runNumber}
 use Rattle.figures.proofs.Lists.{by-test}
 
 -- the difference of a byte and "0", modulo 2^64
@@ -29,11 +28,6 @@ digit-of-wrapped x r small big e = record {
 pub run-most : (v : List ℕ) → run v ≤ length v
 run-most [] = omega arith
 run-most (x ∷ v) = by-test (isDigit x) (λ e. simp e (omega (arith, run-most v))) (λ e. simp e (omega arith))
-
--- the digits at the start are digits
-pub run-digits : (n : ℕ) (v : List ℕ) → digitsAfter n (take (run v) v) ≡ Number (runNumber n v)
-run-digits n [] = refl
-run-digits n (x ∷ v) = by-test (isDigit x) (λ e. simp e (run-digits _ v)) (λ e. simp e)
 
 pub run-append : (ds v : List ℕ) → allDigits ds ≡ true → run (ds ++ v) ≡ length ds + run v
 run-append [] v h = omega arith

@@ -48,6 +48,12 @@ no-first v h = simp (ne-eqb (getD v 0 0) (code " ") h)
 pub no-second : (v : List ℕ) → (getD v 9 0 ≡ code " " → ⊥) → stampIn v ≡ Other
 no-second v h = simp (ne-eqb (getD v 9 0) (code " ") h, and-false)
 
+pub first-blank : (v : List ℕ) (n : ℕ) → stampIn v ≡ Number n → getD v 0 0 ≡ code " "
+first-blank v n h =
+    let s = stampFrom (digitsAfter 0 (take 8 (drop 1 v))) (digitsAfter 0 (drop 10 v)) in
+    let t = chosen (is " " (getD v 0 0) && is " " (getD v 9 0)) s n h in
+    eqb-true (getD v 0 0) (code " ") (and-eq-true-iff (is " " (getD v 0 0)) (is " " (getD v 9 0)) .0 (t .0) .0)
+
 pub by-blanks :
     (v : List ℕ) → getD v 0 0 ≡ code " " → getD v 9 0 ≡ code " " →
     stampIn v ≡ stampFrom (digitsAfter 0 (take 8 (drop 1 v))) (digitsAfter 0 (drop 10 v))

@@ -60,10 +60,10 @@ behind-here i n es w h e = ap₂ (pointed i) (run-here es w h e) (number-here n 
 sorted : (a b d z : Bool) → a ≡ true → b ≡ true → (d && z) ≡ true → (a && b && z) ≡ true
 sorted a b d z h k l = simp (h, k, and-eq-true-iff d z .0 l .1)
 
-pub plain-whole : (ds : List ℕ) → 1 ≤ length ds → length ds ≤ 7 → plain ds ≡ true → mayBeWhole ds ≡ true
+plain-whole : (ds : List ℕ) → 1 ≤ length ds → length ds ≤ 7 → plain ds ≡ true → mayBeWhole ds ≡ true
 plain-whole ds h k p = sorted (leb 1 (length ds)) (leb (length ds) 7) (allDigits ds) _ (le-leb 1 (length ds) h) (le-leb (length ds) 7 k) p
 
-pub whole-plain : (ds : List ℕ) → allDigits ds ≡ true → mayBeWhole ds ≡ true → (1 ≤ length ds) × (length ds ≤ 7) × (plain ds ≡ true)
+whole-plain : (ds : List ℕ) → allDigits ds ≡ true → mayBeWhole ds ≡ true → (1 ≤ length ds) × (length ds ≤ 7) × (plain ds ≡ true)
 whole-plain ds h m =
     let zero = not (is "0" (getD ds 0 0)) || eqb (length ds) 1 in
     let p = and-eq-true-iff (leb 1 (length ds) && leb (length ds) 7) zero .0 m in

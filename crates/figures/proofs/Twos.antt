@@ -1,16 +1,16 @@
 -- Two digits at a place, and the bytes of a day and of a time as such twos.
 -- Assumes nothing.
-use Prim.Native.Nat.{ℕ, _+_, _*_, _≤_}
+use Prim.Native.Nat.{ℕ, _+_, _*_, _%_, _≤_, _<_, _^_}
 use Prim.Native.Char.{code}
-use mathlib.Core.Path.{_≡_, refl, ap, _∙_}
-use mathlib.Core.Bool.{Bool, true, cond, and-eq-true-iff}
+use mathlib.Core.Path.{_≡_, refl, sym, ap, _∙_}
+use mathlib.Core.Bool.{true, false, and-false, and-eq-true-iff, false≢true}
 use mathlib.Core.List.{List, [], _∷_, _++_}
 use native.Mathlib.Omega.{arith}
-use borrow.Author.Tests.{leb-true}
+use borrow.Author.Tests.{leb-true, leb-false, le-leb}
 use lib.Dec.{leb}
 use lib.ListN.{length, getD, take, drop, drop-of-length-le}
 use Rattle.rules.specs.Figures.{isDigit, allDigits, numberAfter}
-use Rattle.figures.specs.Two.{bytesAt, twoAt, twoIn}
+use Rattle.figures.specs.Two.{TwoOf, bytesAt, twoAt}
 use Rattle.figures.proofs.Lists.{drop-step, by-test}
 
 -- Digits on two sides.
@@ -28,7 +28,7 @@ join (x ∷ a) b h k = let p = and-eq-true-iff (isDigit x) (allDigits a) .0 h in
 
 -- Two of them.
 
-digit : (x : ℕ) → isDigit x ≡ true → (code "0" ≤ x) × (x ≤ code "9")
+pub digit : (x : ℕ) → isDigit x ≡ true → (code "0" ≤ x) × (x ≤ code "9")
 digit x h =
     let q = and-eq-true-iff (leb (code "0") x) (leb x (code "9")) .0 h in
     (leb-true _ _ (q .0), leb-true _ _ (q .1))
@@ -49,15 +49,29 @@ two x y h =
 pub two-most : (v : List ℕ) (i : ℕ) → allDigits (bytesAt v i) ≡ true → twoAt v i ≤ 99
 two-most v i h = let t = two (getD v i 0) (getD v (i + 1) 0) h in omega arith
 
--- what stands for them where one is none, is larger
-pub two-in : (v : List ℕ) (i : ℕ) → allDigits (bytesAt v i) ≡ true → twoIn v i ≡ twoAt v i
-two-in v i h = ap (λ (b : Bool). cond b (twoAt v i) 100) h
+-- and what is read of them
+pub no-ones : (x y : ℕ) → isDigit y ≡ false → TwoOf (x ∷ y ∷ []) 100
+no-ones x y h = record { digits = λ few. absurd (omega (arith, few)); none = λ many. simp (h, and-false) }
 
-pub two-known : (v : List ℕ) (i : ℕ) → twoIn v i ≤ 99 → (allDigits (bytesAt v i) ≡ true) × (twoIn v i ≡ twoAt v i)
-two-known v i h =
-    by-test (allDigits (bytesAt v i))
-    (λ t. (t, two-in v i t))
-    (λ t. absurd (omega (arith, simp t at h)))
+-- the bytes as tens and ones less 528, modulo 2^64
+unwrapped : (s r : ℕ) → 528 ≤ s → r < 2 ^ 64 → (r + 528) % 2 ^ 64 ≡ s → r + 528 ≡ s
+unwrapped s r h big e = omega arith
+
+pub two-wrapped : (x y r : ℕ) → x < 256 → isDigit y ≡ true → r < 2 ^ 64 → (r + 528) % 2 ^ 64 ≡ x * 10 + y → TwoOf (x ∷ y ∷ []) r
+two-wrapped x y r small h big e =
+    let q = digit y h in
+    record {
+      digits = λ few. (simp (le-leb (code "0") x (omega arith), le-leb x (code "9") (omega arith), h), omega arith);
+      none = λ many. by-test (allDigits (x ∷ y ∷ []))
+          (λ t. let w = two x y t in absurd (omega (arith, many, unwrapped (x * 10 + y) r (omega arith) big e)))
+          (λ t. t);
+    }
+
+pub two-told : {bytes : List ℕ} {r : ℕ} → TwoOf bytes r → allDigits bytes ≡ true → r ≡ numberAfter 0 bytes
+two-told {bytes} {r} t h =
+    by-test (leb r 99)
+    (λ few. t .digits (leb-true r 99 few) .1)
+    (λ many. absurd (false≢true (sym (t .none (leb-false r 99 many)) ∙ h)))
 
 -- The bytes of a day and of a time.
 

@@ -1,13 +1,15 @@
 // The parts of a trade that was read before: nothing can be wrong with them, so nothing is looked for.
 ghost use mathlib.Core.Path.{_≡_};
 ghost use Prim.Native.Nat.{ℕ};
-ghost use lib.ListN.{length};
+ghost use mathlib.Core.Bool.{true};
+ghost use lib.ListN.{length, getD, take};
+ghost use Rattle.rules.specs.Text.{is};
 ghost use Rattle.figures.specs.declared.number.Digits.the-variants.{Number};
 ghost use Rattle.figures.specs.declared.pair.Pair.the-variants.{Both};
 ghost use Rattle.figures.specs.Starts.{Fronted, frontedAt};
 ghost use Rattle.figures.specs.Pairs.{Paired, pairOf};
 ghost use Rattle.figures.specs.Stamps.{stampIn};
-use crate::number::read_run;
+use crate::number::read_inside;
 use crate::stamp::stamp_from;
 use crate::two::two_of;
 
@@ -42,7 +44,7 @@ fn price_again(v: &[u8]) -> Priced
     requires { ⌜ Fronted (now v) ⌝ }
     ensures { λ r. ⌜ frontedAt (r .price) (r .blank) (now (v .entry)) ⌝ }
 {
-    let whole = read_run(v, 0);
+    let whole = read_inside(v, 0);
     let point = whole.size;
     if v[point] != b'.' {
         return Priced {
@@ -50,20 +52,20 @@ fn price_again(v: &[u8]) -> Priced
             blank: point,
         };
     }
-    let rest = read_run(&v[point + 1..], whole.number);
+    let rest = read_inside(&v[point + 1..], whole.number);
     Priced {
         price: rest.number,
         blank: point + 1 + rest.size,
     }
 }
 
-// And the lots after the blank.
-pub fn pair_again(v: &[u8]) -> Traded
-    requires { ⌜ Paired (now v) ⌝ }
-    ensures { λ r. ⌜ ((d : ℕ) × (pairOf (now (v .entry)) ≡ Both (r .price) d (r .lots))) ⌝ }
+// And the lots after the blank, which end at the blank before the stamp.
+pub fn pair_again(v: &[u8], cut: usize) -> Traded
+    requires { ⌜ Paired (take cut (now v)) × (is " " (getD (now v) cut 0) ≡ true) ⌝ }
+    ensures { λ r. ⌜ ((d : ℕ) × (pairOf (take cut (now (v .entry))) ≡ Both (r .price) d (r .lots))) ⌝ }
 {
-    let front = price_again(v);
-    let lots = read_run(&v[front.blank + 1..], 0);
+    let front = price_again(&v[..cut]);
+    let lots = read_inside(&v[front.blank + 1..], 0);
     Traded {
         price: front.price,
         lots: lots.number,

@@ -198,7 +198,7 @@ pub fn read_again(v: &[u8], bought: bool) -> Trade
     ensures { λ r. ⌜ ((d : ℕ) × (openingOf bought (now (v .entry)) ≡ Made r d)) ⌝ }
 {
     let cut = v.len() - stamp::SIZE;
-    let both = pair_again(&v[..cut]);
+    let both = pair_again(v, cut);
     let made = stamp_again(&v[cut..]);
     trade_of(bought, both.price, both.lots, made)
 }

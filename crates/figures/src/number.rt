@@ -44,6 +44,23 @@ pub fn read_run(v: &[u8], n: u64) -> Run
     Run { size: i, number }
 }
 
+// The same of digits that are known to end before v does: its end is not looked for.
+pub fn read_inside(v: &[u8], n: u64) -> Run
+    requires { ⌜ (run (now v) < length (now v)) × (run (now v) ≤ 19) × (n < 10 ^ (19 - run (now v))) ⌝ }
+    ensures { λ r. ⌜ (r .size ≡ run (now (v .entry))) × (r .number ≡ runNumber n (now (v .entry))) ⌝ }
+{
+    let mut number = n;
+    let mut i = 0;
+    loop {
+        let digit = digit_of(v[i]);
+        if 9 < digit {
+            return Run { size: i, number };
+        }
+        number = number * 10 + digit;
+        i += 1;
+    }
+}
+
 // As many bytes as there may be digits before a point, without a leading zero.
 pub fn may_be_whole(v: &[u8]) -> bool
     ensures { λ r. ⌜ r ≡ mayBeWhole (now (v .entry)) ⌝ }

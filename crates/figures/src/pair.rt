@@ -5,7 +5,6 @@ ghost use lib.ListN.{length};
 ghost use Rattle.rules.specs.Figures.{tradedForm, figureOf};
 ghost use Rattle.figures.specs.Pairs.{lotsOf, pairOf};
 use crate::number::Digits;
-use crate::number::may_be_whole;
 use crate::number::read_run;
 use crate::start::Start;
 use crate::start::read_front;
@@ -25,19 +24,19 @@ pub enum Pair {
     Other,
 }
 
-// Lots in a trade: nothing but digits.
+// Lots in a trade: nothing but digits, of which the first is not 0.
 fn read_lots(v: &[u8]) -> Digits
     requires { ⌜ length (now v) ≤ 16 ⌝ }
     ensures { λ r. ⌜ r ≡ lotsOf (figureOf tradedForm (now (v .entry))) ⌝ }
 {
-    if !may_be_whole(v) {
+    if v.len() == 0 {
+        return Digits::Other;
+    }
+    if v[0] == b'0' {
         return Digits::Other;
     }
     let run = read_run(v, 0);
     if run.size != v.len() {
-        return Digits::Other;
-    }
-    if run.number == 0 {
         return Digits::Other;
     }
     if MOST_LOTS < run.number {
@@ -61,12 +60,6 @@ pub fn read_pair(v: &[u8]) -> Pair
     else {
         return Pair::Other;
     };
-    if v.len() <= blank {
-        return Pair::Other;
-    }
-    if v[blank] != b' ' {
-        return Pair::Other;
-    }
     if price == 0 {
         return Pair::Other;
     }

@@ -35,6 +35,9 @@ fn days_in(y: u64, month: u64) -> u64
     31
 }
 
+// The days that every month has.
+const SHORTEST: u64 = 28;
+
 // Of the years 2000 to 2099, of which every fourth is a leap year.
 fn is_date(y: u64, month: u64, day: u64) -> bool
     ensures { λ r. ⌜ r ≡ isDate (2_000 + y) month day ⌝ }
@@ -50,6 +53,9 @@ fn is_date(y: u64, month: u64, day: u64) -> bool
     }
     if day < 1 {
         return false;
+    }
+    if day <= SHORTEST {
+        return true;
     }
     day <= days_in(y, month)
 }
@@ -85,13 +91,15 @@ pub fn read_stamp(v: &[u8]) -> Digits
     if v[9] != b' ' {
         return Digits::Other;
     }
-    let century = two_at(v, 1);
+    if v[1] != b'2' {
+        return Digits::Other;
+    }
+    if v[2] != b'0' {
+        return Digits::Other;
+    }
     let y = two_at(v, 3);
     let month = two_at(v, 5);
     let day = two_at(v, 7);
-    if century != 20 {
-        return Digits::Other;
-    }
     if !is_date(y, month, day) {
         return Digits::Other;
     }

@@ -3,7 +3,8 @@
 ghost use mathlib.Core.Path.{_≡_};
 ghost use Prim.Native.Nat.{_+_, _≤_, _<_, _^_};
 ghost use lib.ListN.{length};
-ghost use Rattle.figures.specs.Starts.{twoAlone, behind, startOf};
+ghost use Rattle.figures.specs.Starts.{twoAlone, behind, startOf, beforeBlank, frontOf};
+use crate::number::Digits;
 use crate::number::MOST_DIGITS;
 use crate::number::may_be_whole;
 use crate::number::read_run;
@@ -64,26 +65,55 @@ pub fn read_start(v: &[u8]) -> Start
     read_behind(&v[size..], run.number, size)
 }
 
-// A point, two digits and a blank: the number of the digits, and 100 where it is anything else.
-fn two_alone(v: &[u8]) -> u64
+// A point, two digits and a blank: the number of the digits.
+fn two_alone(v: &[u8]) -> Digits
     ensures { λ r. ⌜ r ≡ twoAlone (now (v .entry)) ⌝ }
 {
     if v.len() < 4 {
-        return 100;
+        return Digits::Other;
     }
     if v[3] != b' ' {
-        return 100;
+        return Digits::Other;
     }
     if v[0] != b'.' {
-        return 100;
+        return Digits::Other;
     }
-    two_at(v, 1)
+    let two = two_at(v, 1);
+    if 99 < two {
+        return Digits::Other;
+    }
+    Digits::Number(two)
 }
 
-// As `read_start`. Most prices have two decimals and then a blank: those are read without a loop.
+// A figure at the start of v, where a blank follows it.
+fn before_blank(v: &[u8], start: Start) -> Start
+    ensures { λ r. ⌜ r ≡ beforeBlank (now (v .entry)) start ⌝ }
+{
+    let Start::Ends {
+        number,
+        decimals,
+        end,
+    } = start
+    else {
+        return Start::Other;
+    };
+    if v.len() <= end {
+        return Start::Other;
+    }
+    if v[end] != b' ' {
+        return Start::Other;
+    }
+    Start::Ends {
+        number,
+        decimals,
+        end,
+    }
+}
+
+// The figure at the start of v, and a blank after it. Most prices have two decimals: those are read without a loop.
 pub fn read_front(v: &[u8]) -> Start
     requires { ⌜ length (now v) ≤ 16 ⌝ }
-    ensures { λ r. ⌜ r ≡ startOf (now (v .entry)) ⌝ }
+    ensures { λ r. ⌜ r ≡ frontOf (now (v .entry)) ⌝ }
 {
     let run = read_run(v, 0);
     let size = run.size;
@@ -91,8 +121,7 @@ pub fn read_front(v: &[u8]) -> Start
         return Start::Other;
     }
     if size + 2 <= MOST_DIGITS {
-        let two = two_alone(&v[size..]);
-        if two < 100 {
+        if let Digits::Number(two) = two_alone(&v[size..]) {
             return Start::Ends {
                 number: run.number * 100 + two,
                 decimals: 2,
@@ -100,5 +129,5 @@ pub fn read_front(v: &[u8]) -> Start
             };
         }
     }
-    read_behind(&v[size..], run.number, size)
+    before_blank(v, read_behind(&v[size..], run.number, size))
 }

@@ -1,24 +1,30 @@
 // Two digits at a place.
 ghost use mathlib.Core.Path.{_≡_};
 ghost use Prim.Native.Nat.{_+_, _<_};
+ghost use mathlib.Core.List.{[], _∷_};
 ghost use lib.ListN.{length};
-ghost use Rattle.figures.specs.Two.{DigitsAt, twoAt, twoIn};
+ghost use Rattle.figures.specs.Two.{DigitsAt, TwoOf, bytesAt, twoAt};
 use crate::number::digit_of;
 
-// 100 where one of them is none. Both are looked at before either is tested, so that LLVM can choose without a branch.
+// 48 * 10 + 48, for the bytes of 00.
+const ZEROS: u64 = 528;
+
+// More than 99 where one of two bytes is no digit: with a digit behind it, no other first byte than a digit leaves less. So the first is not
+// tested, and LLVM chooses without a branch.
+fn two_by(tens: u8, ones: u8) -> u64
+    ensures { λ r. ⌜ TwoOf (tens ∷ ones ∷ []) r ⌝ }
+{
+    if 9 < digit_of(ones) {
+        return 100;
+    }
+    std::num::wrapping_sub_u64(tens as u64 * 10 + ones as u64, ZEROS)
+}
+
 pub fn two_at(v: &[u8], i: usize) -> u64
     requires { ⌜ i + 1 < length (now v) ⌝ }
-    ensures { λ r. ⌜ r ≡ twoIn (now (v .entry)) i ⌝ }
+    ensures { λ r. ⌜ TwoOf (bytesAt (now (v .entry)) i) r ⌝ }
 {
-    let tens = digit_of(v[i]);
-    let ones = digit_of(v[i + 1]);
-    if 9 < tens {
-        return 100;
-    }
-    if 9 < ones {
-        return 100;
-    }
-    tens * 10 + ones
+    two_by(v[i], v[i + 1])
 }
 
 // Of bytes that are known to be digits.

@@ -1,16 +1,19 @@
 -- `figures::read_again` meets its contract: both parts of a trade that was read are read again, and `all-read` puts them together.
 -- Assumes nothing.
 use Prim.Native.Nat.{ℕ, _-_}
+use native.Mathlib.Nat.{add-zero}
 use native.Mathlib.Omega.{arith}
 use mathlib.Core.Path.{_≡_, sym, ap, _∙_}
 use mathlib.Core.List.{List}
-use lib.ListN.{length, take, drop, length-drop}
-use lib.Seq.{length-take-le}
+use lib.ListN.{length, getD, take, drop, length-drop}
+use lib.Seq.{getD-drop}
+use borrow.Author.Tests.{eq-eqb}
 use Rattle.rules.specs.declared.Trade.{Trade}
 use Rattle.rules.specs.declared.Opening.the-variants.{Made}
 use Rattle.figures.specs.Good.{tradeOf}
 use Rattle.figures.specs.Stamps.{stampIn}
 use Rattle.figures.proofs.Lists.{to-end}
+use Rattle.figures.proofs.Stamps.{first-blank}
 use Rattle.figures.proofs.Openings.{Parts, good-parts, all-read}
 use borrow.Author.Needs.{needs}
 use Rattle.figures.proofs.read_again.Statement.{statement}
@@ -31,11 +34,12 @@ last c = ap stampIn (sym (to-end (value c) (cut c)))
 sub-cut : tie.Need-sub-cut
 sub-cut c = omega (arith, parts c .room)
 
-slice-aggregate-pair-again : tie.Need-slice-aggregate-pair-again
-slice-aggregate-pair-again c = sym (length-take-le (cut (c .before)) (value (c .before)) (omega arith))
-
 pair-again-requires : tie.Need-pair-again-requires
-pair-again-requires c κs = let p = parts (c .before) in record { price = p .price; places = p .places; lots = p .lots; read = p .pair }
+pair-again-requires c κs =
+    let p = parts c in
+    let v = value c in
+    let blank = ap (λ (i : ℕ). getD v i 0) (sym (add-zero (cut c))) ∙ sym (getD-drop (cut c) v 0 0) ∙ first-blank (drop (cut c) v) (p .made) (p .stamp) in
+    (record { price = p .price; places = p .places; lots = p .lots; read = p .pair }, eq-eqb _ _ blank)
 
 sub-stamp-again : tie.Need-sub-stamp-again
 sub-stamp-again c = search needs
@@ -48,7 +52,7 @@ part-stamp-again-end c = search needs
 
 stamp-again-requires : tie.Need-stamp-again-requires
 stamp-again-requires c κs =
-    let k = c .before .before .before in
+    let k = c .before .before in
     let p = parts k in (
       ap length (to-end (value k) (cut k)) ∙ length-drop (cut k) (value k) ∙ omega (arith, p .room),
       (p .made, sym (last k) ∙ p .stamp),
@@ -60,7 +64,7 @@ trade-of-requires c κs = search needs
 returns : tie.Need-returns
 returns c =
     let e = c .before in
-    let k = e .before .before .before .before in
+    let k = e .before .before .before in
     let bought = k .before .args .bought in
     let pair = e .before .before .pair-again in
     let trade : c .trade-of .result ≡ tradeOf bought (pair .result .price) (pair .result .lots) (e .stamp-again .result) = c .trade-of .ensures in
@@ -72,7 +76,6 @@ read-again-spec =
     tie.close
     (tie.spec
     sub-cut
-    slice-aggregate-pair-again
     pair-again-requires
     sub-stamp-again
     part-stamp-again-start

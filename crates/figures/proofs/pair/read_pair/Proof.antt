@@ -2,6 +2,7 @@
 -- Assumes nothing.
 use borrow.Author.Needs.{needs}
 use Prim.Native.Nat.{ℕ, _+_, _-_, _<_}
+use Prim.Native.Char.{code}
 use native.Mathlib.Omega.{arith}
 use mathlib.Core.Path.{_≡_, sym, ap, _∙_}
 use mathlib.Core.List.{List}
@@ -17,13 +18,14 @@ use Rattle.figures.specs.Starts.{startOf}
 use Rattle.figures.specs.Pairs.{lotsOf}
 use Rattle.figures.proofs.Lists.{to-end}
 use Rattle.figures.proofs.Blanks.{after-blank}
+use Rattle.figures.proofs.Fronts.{blank-inside, before-blank, front-told}
 use Rattle.figures.proofs.Figures.{at-blank, front-start, front-read}
 use Rattle.figures.proofs.Pairs.{PairRead, read-pair, no-pair, pair-short, pair-start, price-least, price-in}
 use Rattle.figures.proofs.Lots.{lots-told}
 use Rattle.figures.proofs.pair.read_pair.Statement.{statement}
 use Rattle.figures.proofs.pair.read_pair.Tie as tie
 
--- a figure stands at the start
+-- a figure stands at the start, and a blank follows it
 module _ (c : tie.After-known-told) where
   abbrev value : List ℕ
   value = c .before .before .before .before .before .before .args .v .now
@@ -37,34 +39,30 @@ module _ (c : tie.After-known-told) where
   abbrev blank : ℕ
   blank = c .before .price .given .0 .1 .1 .0
 
-  told : startOf value ≡ Ends price places blank
-  told = sym (c .before .before .before .read-front .ensures) ∙ c .before .price .given .1
+  told : (startOf value ≡ Ends price places blank) × (getD value blank 0 ≡ code " ")
+  told = front-told value price places blank (sym (c .before .before .before .read-front .ensures) ∙ c .before .price .given .1)
+
+  inside : blank < length value
+  inside = blank-inside value blank (told .1)
+
+  front : (blank ≡ length (upToBlank value)) × (writtenOf (upToBlank value) ≡ Number price places)
+  front = front-read value price places blank (told .0) inside (told .1)
 
   -- and so of any pair
   same : (p d n : ℕ) → PairRead value p d n → (price ≡ p) × (places ≡ d) × (blank ≡ length (upToBlank value))
-  same p d n r = pair-start value p d n price places blank told r
-
--- and a blank follows it
-abbrev at : tie.Else3 → tie.After-known-told
-at c = c .before .before .before
-
-front : (c : tie.Else3) → let k = at c in (blank k ≡ length (upToBlank (value k))) × (writtenOf (upToBlank (value k)) ≡ Number (price k) (places k))
-front c = let k = at c in front-read (value k) (price k) (places k) (blank k) (told k) (omega arith) (c .if3 .left)
-
-inside : (c : tie.Else3) → blank (at c) < length (value (at c))
-inside c = omega arith
+  same p d n r = pair-start value p d n price places blank (told .0) r
 
 -- what the lots say
 lots-read :
     (c : tie.After-read-lots) (d : Digits) → c .read-lots .result ≡ d →
-    let k = at (c .before .before .before) in
+    let k = c .before .before .before in
     lotsOf (figureOf tradedForm (afterBlank (value k))) ≡ d
 lots-read c d h =
-    let t = c .before .before .before in
-    let v = value (at t) in
-    let from = blank (at t) + 1 in
+    let k = c .before .before .before in
+    let v = value k in
+    let from = blank k + 1 in
     let read : c .read-lots .result ≡ lotsOf (figureOf tradedForm (take (length v - from) (drop from v))) = c .read-lots .ensures in
-    sym (read ∙ ap (λ (l : List ℕ). lotsOf (figureOf tradedForm l)) (to-end v from ∙ after-blank v (blank (at t)) (front t .0) (inside t))) ∙ h
+    sym (read ∙ ap (λ (l : List ℕ). lotsOf (figureOf tradedForm l)) (to-end v from ∙ after-blank v (blank k) (front k .0) (inside k))) ∙ h
 
 returns : tie.Need-returns
 returns c = let v = c .before .before .args .v .now in sym (no-pair v (λ p d n r. omega (arith, pair-short v p d n r, c .if1 .taken)))
@@ -83,25 +81,16 @@ returns-2 c =
     let s = c .before .before in
     let v = s .before .before .before .args .v .now in
     sym (no-pair v (λ p d n r.
-    let k = sym (front-start v p d (r .inside) (r .price)) ∙ sym (s .read-front .ensures) ∙ c .enum-told .given .1 in
+    let k = sym (before-blank v (startOf v) p d (length (upToBlank v)) (front-start v p d (r .inside) (r .price)) (at-blank v (r .inside)))
+    ∙ sym (s .read-front .ensures)
+    ∙ c .enum-told .given .1 in
     let z : _≡_ {A = ℕ} 0 1 = cc in
     omega arith))
 
 returns-3 : tie.Need-returns-3
-returns-3 c = let k = c .before in sym (no-pair (value k) (λ p d n r. omega (arith, same k p d n r .2, r .inside, c .if2 .taken)))
-
-shared-slice-read-if3 : tie.Need-shared-slice-read-if3
-shared-slice-read-if3 c = search needs
-
-returns-4 : tie.Need-returns-4
-returns-4 c =
-    let k = c .before .before .before in
-    sym (no-pair (value k) (λ p d n r. c .if3 .taken (ap (λ (i : ℕ). getD (value k) i 0) (same k p d n r .2) ∙ at-blank (value k) (r .inside))))
-
-returns-5 : tie.Need-returns-5
-returns-5 c =
-    let k = at (c .before) in
-    sym (no-pair (value k) (λ p d n r. omega (arith, same k p d n r .0, price-least p d (r .range), c .if4 .taken)))
+returns-3 c =
+    let k = c .before in
+    sym (no-pair (value k) (λ p d n r. omega (arith, same k p d n r .0, price-least p d (r .range), c .if2 .taken)))
 
 add-read-lots : tie.Need-add-read-lots
 add-read-lots c = omega (arith, inside (c .before))
@@ -117,7 +106,7 @@ part-read-lots-end c = search needs
 
 read-lots-requires : tie.Need-read-lots-requires
 read-lots-requires c κs =
-    let k = at (c .before .before) in
+    let k = c .before .before in
     let v = value k in
     let from = blank k + 1 in
     omega (arith, ap length (to-end v from) ∙ length-drop from v, k .before .before .before .before .if1 .left)
@@ -128,29 +117,28 @@ enum-known-lots c = search needs
 enum-told-2 : tie.Need-enum-told-2
 enum-told-2 c = search needs
 
-returns-6 : tie.Need-returns-6
-returns-6 c =
+returns-4 : tie.Need-returns-4
+returns-4 c =
     let f = c .before .before in
-    let k = at (f .before .before .before) in
+    let k = f .before .before .before in
     let none = lots-read f Other (c .enum-told2 .given .1) in
     sym (no-pair (value k) (λ p d n r.
     let e = sym (ap lotsOf (r .lots)) ∙ none in
     let z : _≡_ {A = ℕ} 0 1 = cc in
     omega arith))
 
-returns-7 : tie.Need-returns-7
-returns-7 c =
+returns-5 : tie.Need-returns-5
+returns-5 c =
     let f = c .before .before .before in
     let e = f .before .before in
-    let t = e .before in
-    let k = at t in
+    let k = e .before in
     let v = value k in
-    let written = front t .1 in
+    let written = front k .1 in
     sym (read-pair v (price k) (places k) _
     (record {
-      inside = omega (arith, front t .0, inside t);
+      inside = omega (arith, front k .0, inside k);
       price = written;
-      range = price-in (upToBlank v) (price k) (places k) written (omega (arith, e .if4 .left));
+      range = price-in (upToBlank v) (price k) (places k) written (omega (arith, e .if2 .left));
       lots = lots-told (figureOf tradedForm (afterBlank v)) _ (lots-read f (Lots _) (c .before .lots .given .1));
     }))
 
@@ -164,9 +152,6 @@ read-pair-spec =
     enum-told
     returns-2
     returns-3
-    shared-slice-read-if3
-    returns-4
-    returns-5
     add-read-lots
     sub-read-lots
     part-read-lots-start
@@ -174,5 +159,5 @@ read-pair-spec =
     read-lots-requires
     enum-known-lots
     enum-told-2
-    returns-6
-    returns-7)
+    returns-4
+    returns-5)

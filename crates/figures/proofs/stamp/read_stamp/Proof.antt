@@ -1,43 +1,32 @@
 -- `figures::stamp::read_stamp` meets its contract: `Tests` says what the stamp is by the twos of digits at its places.
 -- Assumes nothing.
 use borrow.Author.Needs.{needs}
-use Prim.Native.Nat.{ℕ, _+_}
+use Prim.Native.Nat.{_+_}
 use native.Mathlib.Omega.{arith}
-use mathlib.Core.Path.{_≡_, sym, ap, ap₂, _∙_}
+use mathlib.Core.Path.{_≡_, sym, _∙_}
 use mathlib.Core.Bool.{true}
 use Rattle.rules.specs.Stamp.{isDate}
-use Rattle.figures.specs.declared.number.Digits.the-variants.{Number}
-use Rattle.figures.specs.Two.{twoIn}
+use Rattle.figures.specs.Stamps.{stampIn}
 use Rattle.figures.proofs.Lists.{negated, affirmed}
 use Rattle.figures.proofs.Stamps.{no-first, no-second}
 use Rattle.figures.proofs.Dates.{date-range}
-use Rattle.figures.proofs.Places.{same-stamp}
-use Rattle.figures.proofs.Tests.{no-century, no-date, no-hour, no-minute, twos-stamp}
+use Rattle.figures.proofs.Tests.{no-century-tens, no-century-ones, no-date, no-hour, no-minute, twos-stamp, told-so}
 use Rattle.figures.proofs.stamp.read_stamp.Statement.{statement}
 use Rattle.figures.proofs.stamp.read_stamp.Tie as tie
 
 -- where the function begins
 abbrev start : tie.After-two-at → tie.Start
-start c = c .before .before .before .before .before .before
+start c = c .before .before .before .before .before .before .before .before .before .before
 
 abbrev at-date : tie.After-is-date → tie.Start
-at-date c = start (c .before .before .before .before .before)
-
--- what the day says
-date-told :
-    (c : tie.After-is-date) → let v = at-date c .args .v .now in isDate (2_000 + twoIn v 3) (twoIn v 5) (twoIn v 7) ≡ c .is-date .result
-date-told c =
-    let v = at-date c .args .v .now in
-    let d = c .before .before in
-    let y = d .before .before .two-at2 in
-    let month = d .before .two-at3 in
-    sym (c .is-date .ensures
-    ∙ ap (λ (x : ℕ). isDate (2_000 + x) (month .result) (d .two-at4 .result)) (y .ensures)
-    ∙ ap₂ (isDate (2_000 + twoIn v 3)) (month .ensures) (d .two-at4 .ensures))
+at-date c = start (c .before .before .before)
 
 -- at the end: the day is one
-good-date : (c : tie.Else4) → let v = at-date (c .before) .args .v .now in isDate (2_000 + twoIn v 3) (twoIn v 5) (twoIn v 7) ≡ true
-good-date c = date-told (c .before) ∙ affirmed (c .before .is-date .result) (c .if4 .left)
+good-date :
+    (c : tie.Else5) →
+    let d = c .before .before in
+    isDate (2_000 + d .before .before .two-at .result) (d .before .two-at2 .result) (d .two-at3 .result) ≡ true
+good-date c = sym (c .before .is-date .ensures) ∙ affirmed (c .before .is-date .result) (c .if5 .left)
 
 shared-slice-read-if1 : tie.Need-shared-slice-read-if1
 shared-slice-read-if1 c = search needs
@@ -51,6 +40,22 @@ shared-slice-read-if2 c = search needs
 returns-2 : tie.Need-returns-2
 returns-2 c = sym (no-second (c .before .before .before .before .before .args .v .now) (c .if2 .taken))
 
+shared-slice-read-if3 : tie.Need-shared-slice-read-if3
+shared-slice-read-if3 c = search needs
+
+returns-3 : tie.Need-returns-3
+returns-3 c =
+    let s = c .before .before .before .before .before .before .before in
+    sym (no-century-tens (s .args .v .now) (s .pre) (c .if3 .taken))
+
+shared-slice-read-if4 : tie.Need-shared-slice-read-if4
+shared-slice-read-if4 c = search needs
+
+returns-4 : tie.Need-returns-4
+returns-4 c =
+    let s = c .before .before .before .before .before .before .before .before .before in
+    sym (no-century-ones (s .args .v .now) (s .pre) (c .if4 .taken))
+
 two-at-requires : tie.Need-two-at-requires
 two-at-requires c κs = search needs
 
@@ -60,75 +65,71 @@ two-at-requires-2 c κs = search needs
 two-at-requires-3 : tie.Need-two-at-requires-3
 two-at-requires-3 c κs = search needs
 
-two-at-requires-4 : tie.Need-two-at-requires-4
-two-at-requires-4 c κs = search needs
-
-returns-3 : tie.Need-returns-3
-returns-3 c =
-    let k = c .before .before .before .before in
-    let s = start k in
-    sym (no-century (s .args .v .now) (s .pre) (λ e. c .if3 .taken (k .two-at .ensures ∙ e)))
-
 is-date-requires : tie.Need-is-date-requires
 is-date-requires c κs = search needs
 
-returns-4 : tie.Need-returns-4
-returns-4 c =
+returns-5 : tie.Need-returns-5
+returns-5 c =
     let k = c .before in
     let s = at-date k in
-    sym (no-date (s .args .v .now) (s .pre) (date-told k ∙ negated (k .is-date .result) (c .if4 .taken)))
+    let d = k .before in
+    sym (no-date (s .args .v .now) _ _ _ (s .pre) (d .before .before .two-at .ensures) (d .before .two-at2 .ensures) (d .two-at3 .ensures)
+    (sym (k .is-date .ensures) ∙ negated (k .is-date .result) (c .if5 .taken)))
+
+two-at-requires-4 : tie.Need-two-at-requires-4
+two-at-requires-4 c κs = search needs
+
+returns-6 : tie.Need-returns-6
+returns-6 c =
+    let s = at-date (c .before .before .before) in
+    sym (no-hour (s .args .v .now) _ (s .pre) (c .before .two-at4 .ensures) (c .if6 .taken))
 
 two-at-requires-5 : tie.Need-two-at-requires-5
 two-at-requires-5 c κs = search needs
 
-returns-5 : tie.Need-returns-5
-returns-5 c =
-    let s = at-date (c .before .before .before) in
-    sym (no-hour (s .args .v .now) (s .pre) (omega (arith, c .before .two-at5 .ensures)))
-
-two-at-requires-6 : tie.Need-two-at-requires-6
-two-at-requires-6 c κs = search needs
-
-returns-6 : tie.Need-returns-6
-returns-6 c =
+returns-7 : tie.Need-returns-7
+returns-7 c =
     let s = at-date (c .before .before .before .before .before) in
-    sym (no-minute (s .args .v .now) (s .pre) (omega (arith, c .before .two-at6 .ensures)))
+    sym (no-minute (s .args .v .now) _ (s .pre) (c .before .two-at5 .ensures) (c .if7 .taken))
 
 stamp-from-requires : tie.Need-stamp-from-requires
 stamp-from-requires c κs =
     let e = c .before .before .before .before in
-    let v = at-date (e .before) .args .v .now in
-    let d = e .before .before .before in
-    let range = date-range (2_000 + twoIn v 3) (twoIn v 5) (twoIn v 7) (good-date e) in (
-      omega (arith, range .year-most, d .before .before .two-at2 .ensures),
-      omega (arith, range .month-most, d .before .two-at3 .ensures),
-      omega (arith, range .day-most, d .two-at4 .ensures),
+    let d = e .before .before in
+    let range = date-range (2_000 + d .before .before .two-at .result) (d .before .two-at2 .result) (d .two-at3 .result) (good-date e) in (
+      omega (arith, range .year-most),
+      omega (arith, range .month-most),
+      omega (arith, range .day-most),
       omega arith,
       omega arith,
     )
 
-returns-7 : tie.Need-returns-7
-returns-7 c =
+returns-8 : tie.Need-returns-8
+returns-8 c =
     let n = c .before in
     let h = n .before .before in
     let e = h .before .before in
-    let k = e .before .before in
-    let d = k .before in
-    let century = d .before .before .before in
-    let blanks = century .before in
+    let d = e .before .before in
+    let ones = d .before .before .before in
+    let tens = ones .before .before in
+    let blanks = tens .before .before in
     let s = at-date (e .before) in
-    let day = d .two-at4 .ensures in
-    let hour = h .before .two-at5 .ensures in
-    let minute = n .before .two-at6 .ensures in
-    let read = twos-stamp (s .args .v .now) (s .pre)
+    let read = twos-stamp (s .args .v .now) _ _ _ _ _ (s .pre)
     (blanks .before .before .if1 .left)
     (blanks .if2 .left)
-    (sym (century .two-at .ensures) ∙ k .if3 .left)
-    (good-date e)
-    (omega (arith, hour))
-    (omega (arith, minute)) in
-    let made = same-stamp _ _ _ _ _ _ _ _ _ _ _ (c .stamp-from .ensures) (d .before .before .two-at2 .ensures) (d .before .two-at3 .ensures) day hour minute in
-    sym (read ∙ ap Number (sym made))
+    (record {
+      century-tens = tens .if3 .left;
+      century-ones = ones .if4 .left;
+      year = d .before .before .two-at .ensures;
+      month = d .before .two-at2 .ensures;
+      day = d .two-at3 .ensures;
+      hour = h .before .two-at4 .ensures;
+      minute = n .before .two-at5 .ensures;
+      date = good-date e;
+      hour-most = h .if6 .left;
+      minute-most = n .if7 .left;
+    }) in
+    told-so (stampIn (s .args .v .now)) (c .stamp-from .result) _ read (c .stamp-from .ensures)
 
 pub read-stamp-spec : {M : Type 1} → statement M
 read-stamp-spec =
@@ -138,16 +139,18 @@ read-stamp-spec =
     returns
     shared-slice-read-if2
     returns-2
+    shared-slice-read-if3
+    returns-3
+    shared-slice-read-if4
+    returns-4
     two-at-requires
     two-at-requires-2
     two-at-requires-3
-    two-at-requires-4
-    returns-3
     is-date-requires
-    returns-4
-    two-at-requires-5
     returns-5
-    two-at-requires-6
+    two-at-requires-4
     returns-6
+    two-at-requires-5
+    returns-7
     stamp-from-requires
-    returns-7)
+    returns-8)

@@ -1,21 +1,21 @@
--- `figures::start::read_front` meets its contract, as `read_start`; and `two-there` says what two decimals and a blank come to.
+-- `figures::start::read_front` meets its contract, as `read_start`; `two-there` says what two decimals and a blank come to.
 -- Assumes nothing.
 use borrow.Author.Needs.{needs}
-use Prim.Native.Nat.{ℕ, _+_, _-_, _*_, _<_, _≤_, _^_}
+use Prim.Native.Nat.{ℕ, _+_, _-_, _<_, _≤_, _^_}
 use native.Mathlib.Omega.{arith}
 use mathlib.Core.Path.{_≡_, sym, ap, ap₂, _∙_}
 use mathlib.Core.Bool.{Bool, true, false, cond}
 use mathlib.Core.List.{List}
 use lib.ListN.{length, take, drop, length-drop}
-use lib.Seq.{length-take-le}
+use lib.Seq.{length-take-le, getD-drop}
 use Rattle.figures.specs.declared.start.Start.{Start}
-use Rattle.figures.specs.declared.start.Start.the-variants.{Ends, Other}
+use Rattle.figures.specs.declared.start.Start.the-variants.{Other}
 use Rattle.figures.specs.Numbers.{run, mayBeWhole}
-use Rattle.figures.specs.Starts.{twoAlone, behind, startOf}
+use Rattle.figures.specs.Starts.{twoAlone, behind, startOf, beforeBlank}
 use Rattle.figures.proofs.Lists.{to-end, negated, affirmed}
 use Rattle.figures.proofs.Runs.{run-most}
 use Rattle.figures.proofs.Sizes.{at-most, run-below}
-use Rattle.figures.proofs.Fronts.{two-there}
+use Rattle.figures.proofs.Fronts.{Alone, alone, alone-most, two-there, before-blank}
 use Rattle.figures.proofs.start.read_front.Statement.{statement}
 use Rattle.figures.proofs.start.read_front.Tie as tie
 
@@ -49,7 +49,7 @@ may-be-whole-requires : tie.Need-may-be-whole-requires
 may-be-whole-requires c κs = search needs
 
 returns : tie.Need-returns
-returns c = sym (whole-read (c .before) false (negated (c .before .may-be-whole .result) (c .if1 .taken)))
+returns c = let v = value (c .before .before .before) in sym (ap (beforeBlank v) (whole-read (c .before) false (negated (c .before .may-be-whole .result) (c .if1 .taken))))
 
 -- a part before the point: what follows it tells
 behind-told :
@@ -81,28 +81,42 @@ part-two-alone-end c = search needs
 two-alone-requires : tie.Need-two-alone-requires
 two-alone-requires c κs = search needs
 
+enum-known-two : tie.Need-enum-known-two
+enum-known-two c = search needs
+
+-- two digits and a blank
+there : (c : tie.After-struct-known) → let t = c .before .before in let r = t .before .before .before .before .before .before .before .before in
+    Alone (t .two .given .0 .0) (drop (r .read-run .result .size) (value r))
+there c =
+    let t = c .before .before in
+    let r = t .before .before .before .before .before .before .before .before in
+    alone _ _ (ap twoAlone (sym (to-end (value r) (r .read-run .result .size))) ∙ sym (t .before .before .two-alone .ensures) ∙ t .two .given .1)
+
 mul-t15 : tie.Need-mul-t15
-mul-t15 c = omega (arith, small (c .before .before .before .before .before))
+mul-t15 c = omega (arith, small (c .before .before .before .before .before .before .before))
 
 add-t16 : tie.Need-add-t16
-add-t16 c = omega (arith, small (c .before .before .before .before .before), c .before .if3 .taken)
+add-t16 c =
+    let few = alone-most _ _ (there c) in
+    omega (arith, small (c .before .before .before .before .before .before .before), few)
 
 add-t17 : tie.Need-add-t17
 add-t17 c = search needs
 
 returns-2 : tie.Need-returns-2
 returns-2 c =
-    let t = c .before .before in
-    let e = t .before .before in
+    let e = c .before .before .before .before .before .before in
     let k = e .before in
     let r = k .before .before .before in
     let v = value r in
     let size = r .read-run .result .size in
     let n = r .read-run .result .number in
-    let two = t .two-alone .ensures ∙ ap twoAlone (to-end v size) in
-    sym (behind-told k
-    ∙ two-there size n (drop size v) (omega (arith, two, c .before .if3 .taken)) (e .if2 .taken)
-    ∙ ap (λ (m : ℕ). Ends (n * 100 + m) 2 (size + 3)) (sym two))
+    let a = there c in
+    sym (before-blank v (startOf v) _ 2 (size + 3) (behind-told k ∙ two-there size n _ (drop size v) a (e .if2 .taken))
+    (sym (getD-drop size v 3 0) ∙ a .blank))
+
+enum-told : tie.Need-enum-told
+enum-told c = search needs
 
 sub-read-behind : tie.Need-sub-read-behind
 sub-read-behind c = inside (c .before .before .before .before)
@@ -123,12 +137,17 @@ read-behind-requires c κs =
       omega (arith, rest, inside r),
     )
 
+before-blank-requires : tie.Need-before-blank-requires
+before-blank-requires c κs = search needs
+
 returns-3 : tie.Need-returns-3
 returns-3 c =
-    let k = c .before .before .before in
+    let b = c .before in
+    let k = b .before .before .before in
     let r = k .before .before .before in
     let size = r .read-run .result .size in
-    c .read-behind .ensures ∙ ap (behind size (r .read-run .result .number)) (to-end (value r) size) ∙ sym (behind-told k)
+    c .before-blank .ensures
+    ∙ ap (beforeBlank (value r)) (b .read-behind .ensures ∙ ap (behind size (r .read-run .result .number)) (to-end (value r) size) ∙ sym (behind-told k))
 
 pub read-front-spec : {M : Type 1} → statement M
 read-front-spec =
@@ -143,12 +162,15 @@ read-front-spec =
     part-two-alone-start
     part-two-alone-end
     two-alone-requires
+    enum-known-two
     mul-t15
     add-t16
     add-t17
     returns-2
+    enum-told
     sub-read-behind
     part-read-behind-start
     part-read-behind-end
     read-behind-requires
+    before-blank-requires
     returns-3)

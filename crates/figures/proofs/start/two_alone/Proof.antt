@@ -2,7 +2,13 @@
 -- Assumes nothing.
 use borrow.Author.Needs.{needs}
 use borrow.Author.Tests.{eq-eqb, ne-eqb, le-leb, lt-leb}
+use mathlib.Core.Path.{_≡_, sym, ap, _∙_}
+use mathlib.Core.Bool.{cond}
 use lib.ListN.{length}
+use Rattle.rules.specs.Figures.{allDigits}
+use Rattle.figures.specs.declared.number.Digits.the-variants.{Number, Other}
+use Rattle.figures.specs.Two.{bytesAt, twoAt}
+use Rattle.figures.specs.Starts.{twoAlone}
 use Rattle.figures.proofs.start.two_alone.Statement.{statement}
 use Rattle.figures.proofs.start.two_alone.Tie as tie
 
@@ -28,12 +34,23 @@ returns-3 c =
 two-at-requires : tie.Need-two-at-requires
 two-at-requires c κs = search needs
 
-returns-4 : tie.Need-returns-4
-returns-4 c =
+-- what is told behind the tests of the point and the blank
+told :
+    (c : tie.After-two-at) →
+    let v = c .before .before .before .before .before .before .before .args .v .now in
+    twoAlone v ≡ cond (allDigits (bytesAt v 1)) (Number (twoAt v 1)) Other
+told c =
     let k = c .before in
     let v = k .before .before .before .before .before .before .args .v .now in
     simp (le-leb 4 (length v) (k .before .before .before .before .if1 .left), eq-eqb _ _ (k .before .before .if2 .left), eq-eqb _ _ (k .if3 .left))
-    (c .two-at .ensures)
+
+returns-4 : tie.Need-returns-4
+returns-4 c = sym (told (c .before) ∙ simp (c .before .two-at .ensures .none (c .if4 .taken)))
+
+returns-5 : tie.Need-returns-5
+returns-5 c =
+    let two = c .before .two-at .ensures .digits (c .if4 .left) in
+    sym (told (c .before) ∙ simp (two .0) (ap Number (sym (two .1))))
 
 pub two-alone-spec : {M : Type 1} → statement M
 two-alone-spec =
@@ -45,4 +62,5 @@ two-alone-spec =
     shared-slice-read-if3
     returns-3
     two-at-requires
-    returns-4)
+    returns-4
+    returns-5)
