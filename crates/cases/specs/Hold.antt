@@ -19,6 +19,7 @@ use Rattle.cases.specs.Order.{order}
 use Rattle.cases.specs.Outcomes.{outcomes}
 use Rattle.cases.specs.Nights.{nights}
 use Rattle.cases.specs.Silver.{silver}
+use Rattle.cases.specs.LostPoints.{lostPoints}
 
 -- "The marked cases are proved together as a table under a single statement about the definitions"
 pub marked-cases : AllHold cases
@@ -62,4 +63,12 @@ silver-holds =
     & so & so & so & so & so & so & so & so & so & so & so & so & so & so & so & so & so & so & so & so
     & so & so & so & so & so & so & so & so & so & so & so & so & so & so & so & so & so & so & so & so
     & so & so & so & so & so & so & so & so & so & so & so & so & so & so & so & so & so & so & so & so
-    & so & so & done
+    & so & so & so & so & so & so & done
+
+pub lost-points-hold : AllHold lostPoints
+unfolding lostPoints writtenOf figureOf openingOf stampOf isCode fieldsOf within step judge gainFrom totalGain standing leftOver rank shareOf share lineOf quantity after cascade outcome digits listing answer
+lost-points-hold =
+    so & so & so & so & so & so & so & so & so & so & so & so & so & so & so & so & so & so & so & so
+    & so & so & so & so & so & so & so & so & so & so & so & so & so & so & so & so & so & so & so & so
+    & so & so & so & so & so & so & so & so & so & so & so & so & so & so & so & so & so & so & so & so
+    & so & so & so & so & so & so & so & so & so & so & so & done

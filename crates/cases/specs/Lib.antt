@@ -9,6 +9,7 @@ pub mod Order
 pub mod Outcomes
 pub mod Nights
 pub mod Silver
+pub mod LostPoints
 pub mod Crowded
 pub mod Hold
 pub mod HoldCrowded

@@ -91,8 +91,10 @@ sheetReport =
 
 unfoldable pub silver : List Case
 silver =
-    buyer "X 0: S 1, bought at 9999999" "0" "1" "9999999 1" 9_999_998
-    ∷ seller "X 0: S 9999999, sold at 1" "0" "9999999" "1 1" 9_999_998
+    buyer "X 0: S 1, bought at 5" "0" "1" "5 1" 4
+    ∷ buyer "X 0: S 2000000, bought at 9999999" "0" "2000000" "9999999 1" 7_999_999
+    ∷ seller "X 0: S 5, sold at 1" "0" "5" "1 1" 4
+    ∷ seller "X 0: S 9999999, sold at 2000000" "0" "9999999" "2000000 1" 7_999_999
     ∷ accepts "X 0: S 8000" yuan
     ∷ refusedAtSOf "5: X 0, S 10000000" "0" "10000000" 5
     ∷ refusedAtSOf "5: X 0, S 0" "0" "0" 5
@@ -108,8 +110,10 @@ silver =
     ∷ refusedAtSOf "5: X 0, S with a blank behind it" "0" "8000 " 5
     ∷ refusedAtSOf "4: X 0, S 8,000" "0" "8,000" 4
     ∷ refusedAtSOf "4: X 0, S 400,00" "0" "400,00" 4
-    ∷ buyer "X 2: S 0.01, bought at 99999.99" "2" "0.01" "99999.99 1" 9_999_998
-    ∷ seller "X 2: S 99999.99, sold at 0.01" "2" "99999.99" "0.01 1" 9_999_998
+    ∷ buyer "X 2: S 0.01, bought at 0.05" "2" "0.01" "0.05 1" 4
+    ∷ buyer "X 2: S 20000.00, bought at 99999.99" "2" "20000.00" "99999.99 1" 7_999_999
+    ∷ seller "X 2: S 0.05, sold at 0.01" "2" "0.05" "0.01 1" 4
+    ∷ seller "X 2: S 99999.99, sold at 20000.00" "2" "99999.99" "20000.00 1" 7_999_999
     ∷ buyer "X 2: S 400.00, bought at 400.01" "2" "400.00" "400.01 1" 1
     ∷ refusedAtSOf "5: X 2, S 400" "2" "400" 5
     ∷ refusedAtSOf "5: X 2, S 400.0" "2" "400.0" 5
@@ -153,12 +157,12 @@ silver =
     ∷ refusedAtTrade "5: X 2, sold at 100000.00" (sold "100000.00 1") 5
     ∷ refusedAfter "5: the second trade with a point" (yuan ++ customer "A" "2" "0" "0" (bought "8000 1" ∷ [])) (bought "8000.00 1" ++ end) 5
     ∷ refusedAfter "5 before 9: 400 where prices have decimals" (gold ++ customer "A" "2" "0" "0" []) (bought "400 1" ++ end) 5
-    ∷ loses "a million lots at a loss of 9,979,999 yuan"
-    (book (withS "0" "20000") (customer "A" "1000000" "0" "1000000" (bought "9999999 1000000" ∷ []) ∷ []))
-    9_979_999_000_000
-    ∷ refusedInYuan "5: X 0, a trade of 1.00 lots" (bought "400 1.00") 5
-    ∷ refusedInYuan "5: X 0, a trade of 0 lots" (sold "400 0") 5
-    ∷ refusedInYuan "5: X 0, a trade of 1000001 lots" (bought "400 1000001") 5
+    ∷ loses "a million lots at a loss of 7,999,999 yuan"
+    (book (withS "0" "2000000") (customer "A" "1000000" "0" "1000000" (bought "9999999 1000000" ∷ []) ∷ []))
+    7_999_999_000_000
+    ∷ refusedInYuan "5: X 0, a trade of 1.00 lots" (bought "8000 1.00") 5
+    ∷ refusedInYuan "5: X 0, a trade of 0 lots" (sold "8000 0") 5
+    ∷ refusedInYuan "5: X 0, a trade of 1000001 lots" (bought "8000 1000001") 5
     ∷ refusedAtKInYuan "5: X 0, K 07" "07" 5
     ∷ refusedAtKInYuan "5: X 0, K 5.00" "5.00" 5
     ∷ refusedAtKInYuan "5: X 0, K 1000001" "1000001" 5

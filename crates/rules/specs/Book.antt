@@ -1,11 +1,12 @@
 -- docs/RULES.md, sections 3, 6 and 7.
--- Document 01, "The book, field by field" (which tag may stand where) and "Refusal numbers" 1 to 10 with their places.
+-- Document 01, "The book, field by field" (which tag may stand where), "Refusal numbers" 1 to 10 with their places, and 12 of request [4].
 -- Assumes nothing.
-use Prim.Native.Nat.{ℕ, _+_, _-_, min, max}
+use Prim.Native.Nat.{ℕ, _+_, _-_, _*_, min, max}
 use mathlib.Core.List.{List, [], _∷_, _++_}
 use mathlib.Core.Bool.{Bool, true, false, cond, not, _||_}
 use lib.ListN.{length}
 use lib.Dec.{leb, ltb, eqb}
+use Rattle.rules.specs.declared.Fen.{Fen}
 use Rattle.rules.specs.declared.Terms.{Terms}
 use Rattle.rules.specs.declared.Position.{Position}
 use Rattle.rules.specs.declared.Trade.{Trade}
@@ -52,6 +53,10 @@ uncovered c = ltb (opened (netLong (c .position)) (c .trades)) (net (c .position
 -- 8: "Q exceeds K when locked down, or H when locked up"
 abbrev pub overdrawn : Terms → Position → Bool
 overdrawn terms p = ltb (cond (terms .down) (p .long .0) (p .short .0)) (p .unfilled .0)
+
+-- Request [4]: "Refuse a trade price above five times S or below a fifth of S." Both are in the book's unit, and both ends are good
+abbrev pub astray : Fen → Fen → Bool
+astray s price = ltb (5 * s .0) (price .0) || ltb (5 * price .0) (s .0)
 
 -- 7: "a customer code was given before"
 abbrev pub given : List ℕ → List Customer → Bool
@@ -132,7 +137,10 @@ within terms (Open DueQ c) t v =
     must (is "Q" t) (figure (figureOf heldForm v) λ q.
     let p : Position = record { long = c .position .long; short = c .position .short; unfilled = lots q } in
     refuse refusal.overdrawn (overdrawn terms p) (Next (Open DueTrade (held c p))))
-within terms (Open DueTrade c) t v = must (is "B" t || is "A" t) (trade (terms .decimals) (openingOf (is "B" t) v) λ x. Next (Open DueTrade (traded c x)))
+-- "12, at the trade's tag, after 4 and 5 for that field"
+within terms (Open DueTrade c) t v =
+    must (is "B" t || is "A" t) (trade (terms .decimals) (openingOf (is "B" t) v) λ x.
+    refuse refusal.astray (astray (terms .settlement) (x .price)) (Next (Open DueTrade (traded c x))))
 
 -- a group may end once its Q is read
 abbrev pub mayEnd : Part → Bool

@@ -1,5 +1,5 @@
 -- docs/RULES.md, section 6.
--- Document 01, "Refusal numbers": a name for each number of the table, and for 0. Brought in as `refusal`, so that a definition reads
+-- Document 01, "Refusal numbers", and request [4]: a name for each number of the table, and for 0. Brought in as `refusal`, so that a definition reads
 -- `refusal.overdrawn`.
 -- Assumes nothing.
 use Prim.Native.Nat.{ℕ}
@@ -50,3 +50,7 @@ tooMany = 10
 -- "the report is longer than the lent buffer"
 abbrev pub noRoom : ℕ
 noRoom = 11
+
+-- Request [4]: "a trade price above five times S or below a fifth of S"
+abbrev pub astray : ℕ
+astray = 12

@@ -23,3 +23,6 @@ pub const UNCOVERED: u64 = 9;
 pub const TOO_MANY: u64 = 10;
 
 pub const NO_ROOM: u64 = 11;
+
+// A trade's price is too far from the settlement price.
+pub const ASTRAY: u64 = 12;
