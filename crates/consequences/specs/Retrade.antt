@@ -9,6 +9,7 @@ use native.Mathlib.Omega.{arith}
 use lib.Dec.{eqb}
 use borrow.Author.Tests.{eqb-true, eq-eqb}
 use lib.ListN.{length}
+use Rattle.rules.specs.declared.Terms.{Terms}
 use Rattle.rules.specs.declared.Trade.{Trade}
 use Rattle.rules.specs.declared.Opening.{Opening}
 use Rattle.rules.specs.declared.Opening.the-variants.{Made}
@@ -18,6 +19,7 @@ use Rattle.rules.specs.Text.{is}
 use Rattle.rules.specs.Opening.{openingOf}
 use Rattle.rules.specs.Division.{sumOf}
 use Rattle.rules.specs.Fields.{Field, Whole, Cut}
+use Rattle.rules.specs.Book.{astray}
 use Rattle.laws.specs.ByTest.{by-test}
 use Rattle.laws.specs.All2.{All2}
 use Rattle.order.specs.Order.{ofStamp}
@@ -44,13 +46,13 @@ trades-other ks ls r = record { same = λ d. of-map d ks ∙ ap (map tradeAt) (r
 
 -- ---- bytes that write a trade
 
-module _ (decimals : ℕ) where
+module _ (terms : Terms) where
   abbrev unmade : Opening → ℕ
-  unmade (Made x d) = cond (eqb d decimals) 0 1
+  unmade (Made x d) = cond (eqb d (terms .decimals)) (cond (astray (terms .settlement) (x .price)) 1 0) 1
   unmade CommaIn = 1
   unmade NoTrade = 1
 
-  -- 0 where a field writes a trade, its price with so many decimals, and 1 where it does not
+  -- 0 where a field writes a trade that is good under the terms, and 1 where it does not
   abbrev noTrade : Field → ℕ
   noTrade Cut = 1
   noTrade (Whole t v) = cond (is "B" t || is "A" t) (unmade (openingOf (is "B" t) v)) 1
@@ -58,46 +60,49 @@ module _ (decimals : ℕ) where
   abbrev bad : List ℕ → ℕ
   bad k = noTrade (fieldIn k)
 
-  writes : (t : ℕ) (v : List ℕ) → noTrade (Whole t v) ≡ 0 → Trades decimals (Whole t v) (tradeIn (openingOf (is "B" t) v))
+  writes : (t : ℕ) (v : List ℕ) → noTrade (Whole t v) ≡ 0 → Trades terms (Whole t v) (tradeIn (openingOf (is "B" t) v))
   writes t v = go (is "B" t || is "A" t) (openingOf (is "B" t) v)
     where
-      go : (b : Bool) (o : Opening) → cond b (unmade o) 1 ≡ 0 → (b ≡ true) × (o ≡ Made (tradeIn o) decimals)
+      go : (b : Bool) (o : Opening) → cond b (unmade o) 1 ≡ 0 → (b ≡ true) × (o ≡ Made (tradeIn o) (terms .decimals)) × (astray (terms .settlement) (tradeIn o .price) ≡ false)
       go true (Made x d) e =
-          by-test (eqb d decimals)
-          (λ same. (refl, ap (Made x) (eqb-true d decimals same)))
+          by-test (eqb d (terms .decimals))
+          (λ same.
+          by-test (astray (terms .settlement) (x .price))
+          (λ far. absurd (let z : _≡_ {A = ℕ} 1 0 = rw (same, far) at e in omega arith))
+          (λ near. (refl, ap (Made x) (eqb-true d (terms .decimals) same), near)))
           (λ same. absurd (let z : _≡_ {A = ℕ} 1 0 = rw same at e in omega arith))
       go true CommaIn e = absurd (omega arith)
       go true NoTrade e = absurd (omega arith)
       go false o e = absurd (omega arith)
 
-  written : (t : ℕ) (v : List ℕ) (x : Trade) → Trades decimals (Whole t v) x → (noTrade (Whole t v) ≡ 0) × (x ≡ tradeIn (openingOf (is "B" t) v))
-  written t v x h = (rw (h .0, h .1, eq-eqb decimals decimals refl), ap tradeIn (sym (h .1)))
+  written : (t : ℕ) (v : List ℕ) (x : Trade) → Trades terms (Whole t v) x → (noTrade (Whole t v) ≡ 0) × (x ≡ tradeIn (openingOf (is "B" t) v))
+  written t v x h = (rw (h .0, h .1, eq-eqb (terms .decimals) (terms .decimals) refl, h .2), ap tradeIn (sym (h .1)))
 
-  good : (k : List ℕ) → bad k ≡ 0 → Trades decimals (fieldIn k) (tradeAt k)
+  good : (k : List ℕ) → bad k ≡ 0 → Trades terms (fieldIn k) (tradeAt k)
   good [] e = absurd (omega arith)
   good (t ∷ []) e = absurd (omega arith)
   good (t ∷ a ∷ []) e = absurd (omega arith)
   good (t ∷ a ∷ b ∷ v) e = go (eqb (length v) (a * 256 + b)) e
     where
-      go : (q : Bool) → noTrade (cond q (Whole t v) Cut) ≡ 0 → Trades decimals (cond q (Whole t v) Cut) (tradeIn (openingOf (is "B" t) v))
+      go : (q : Bool) → noTrade (cond q (Whole t v) Cut) ≡ 0 → Trades terms (cond q (Whole t v) Cut) (tradeIn (openingOf (is "B" t) v))
       go true e = writes t v e
       go false e = absurd (omega arith)
 
-  good-back : (k : List ℕ) (x : Trade) → Trades decimals (fieldIn k) x → (bad k ≡ 0) × (x ≡ tradeAt k)
+  good-back : (k : List ℕ) (x : Trade) → Trades terms (fieldIn k) x → (bad k ≡ 0) × (x ≡ tradeAt k)
   good-back [] x h = absurd h
   good-back (t ∷ []) x h = absurd h
   good-back (t ∷ a ∷ []) x h = absurd h
   good-back (t ∷ a ∷ b ∷ v) x h = go (eqb (length v) (a * 256 + b)) h
     where
-      go : (q : Bool) → Trades decimals (cond q (Whole t v) Cut) x → (noTrade (cond q (Whole t v) Cut) ≡ 0) × (x ≡ tradeIn (openingOf (is "B" t) v))
+      go : (q : Bool) → Trades terms (cond q (Whole t v) Cut) x → (noTrade (cond q (Whole t v) Cut) ≡ 0) × (x ≡ tradeIn (openingOf (is "B" t) v))
       go true h = written t v x h
       go false h = absurd h
 
-  all-good : (ks : List (List ℕ)) → sumOf bad ks ≡ 0 → All2 (Trades decimals) (map fieldIn ks) (map tradeAt ks)
+  all-good : (ks : List (List ℕ)) → sumOf bad ks ≡ 0 → All2 (Trades terms) (map fieldIn ks) (map tradeAt ks)
   all-good [] e = tt
   all-good (k ∷ ks) e = (good k (omega arith), all-good ks (omega arith))
 
-  all-back : (ks : List (List ℕ)) (xs : List Trade) → All2 (Trades decimals) (map fieldIn ks) xs → (sumOf bad ks ≡ 0) × (xs ≡ map tradeAt ks)
+  all-back : (ks : List (List ℕ)) (xs : List Trade) → All2 (Trades terms) (map fieldIn ks) xs → (sumOf bad ks ≡ 0) × (xs ≡ map tradeAt ks)
   all-back [] [] h = (refl, refl)
   all-back [] (x ∷ xs) h = absurd h
   all-back (k ∷ ks) [] h = absurd h
@@ -108,10 +113,10 @@ module _ (decimals : ℕ) where
 
   -- the trades of a group in another order are trades, those that were there
   pub record Others (ls : List (List ℕ)) (xs : List Trade) : Type 0 where
-    pub all : All2 (Trades decimals) (map fieldIn ls) (map tradeAt ls)
+    pub all : All2 (Trades terms) (map fieldIn ls) (map tradeAt ls)
     pub same : reading (map tradeAt ls) [] ≡ reading xs []
 
-  pub others : (ks ls : List (List ℕ)) (xs : List Trade) → All2 (Trades decimals) (map fieldIn ks) xs → InOtherOrder madeAt ks ls → Others ls xs
+  pub others : (ks ls : List (List ℕ)) (xs : List Trade) → All2 (Trades terms) (map fieldIn ks) xs → InOtherOrder madeAt ks ls → Others ls xs
   others ks ls xs h r =
       let b = all-back ks xs h in
       record {

@@ -32,12 +32,12 @@ not-other t h =
     (λ e. rw (eqb-true t (code "B") e) (refl, refl))
     (λ e. rw (eqb-true t (code "A") (rw e at h)) (refl, refl))
 
-trades-inner : (decimals : ℕ) (fs : List Field) (xs : List Trade) → All2 (Trades decimals) fs xs → Inner fs
-trades-inner decimals [] [] h = tt
-trades-inner decimals [] (x ∷ xs) h = absurd h
-trades-inner decimals (f ∷ fs) [] h = absurd h
-trades-inner decimals (Cut ∷ fs) (x ∷ xs) h = absurd (h .0)
-trades-inner decimals (Whole t v ∷ fs) (x ∷ xs) h = let n = not-other t (h .0 .0) in (n .0, n .1, trades-inner decimals fs xs (h .1))
+trades-inner : (terms : Terms) (fs : List Field) (xs : List Trade) → All2 (Trades terms) fs xs → Inner fs
+trades-inner terms [] [] h = tt
+trades-inner terms [] (x ∷ xs) h = absurd h
+trades-inner terms (f ∷ fs) [] h = absurd h
+trades-inner terms (Cut ∷ fs) (x ∷ xs) h = absurd (h .0)
+trades-inner terms (Whole t v ∷ fs) (x ∷ xs) h = let n = not-other t (h .0 .0) in (n .0, n .1, trades-inner terms fs xs (h .1))
 
 -- ---- the first four fields, and the others
 
@@ -101,8 +101,8 @@ module _ (terms : Terms) (g : List ℕ) (c : Customer) (d : Describes terms g c)
     abbrev us : List (List ℕ)
     us = drop 4 ls
 
-    other : Others (terms .decimals) us (read .trades)
-    other = others (terms .decimals) (drop 4 ks) us (read .trades) (subst (λ (fs : List Field). All2 (Trades (terms .decimals)) fs (read .trades)) (sym trade-cuts) (read .all)) (r .trades)
+    other : Others terms us (read .trades)
+    other = others terms (drop 4 ks) us (read .trades) (subst (λ (fs : List Field). All2 (Trades terms) fs (read .trades)) (sym trade-cuts) (read .all)) (r .trades)
 
     new-cuts : map fieldIn ls ≡ Whole (code "C") (c .code) ∷ with (map fieldIn us)
     new-cuts =
@@ -117,7 +117,7 @@ module _ (terms : Terms) (g : List ℕ) (c : Customer) (d : Describes terms g c)
         ap (holding (q .customer)) (ap (reading (map tradeAt us)) none-held ∙ other .same ∙ ap (reading (read .trades)) (sym none-held)) ∙ sym (read .held)
 
     plain : Inner (with (map fieldIn us))
-    plain = let p = subst Inner inner-is (d .plain) in (p .0, p .1, (p .2 .0, p .2 .1, (p .2 .2 .0, p .2 .2 .1, trades-inner (terms .decimals) (map fieldIn us) (map tradeAt us) (other .all))))
+    plain = let p = subst Inner inner-is (d .plain) in (p .0, p .1, (p .2 .0, p .2 .1, (p .2 .2 .0, p .2 .2 .1, trades-inner terms (map fieldIn us) (map tradeAt us) (other .all))))
 
     reads : inside terms (afterC (c .code)) (with (map fieldIn us)) ≡ Next (Open DueTrade c)
     reads =

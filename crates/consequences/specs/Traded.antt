@@ -8,16 +8,17 @@ use borrow.Author.Tests.{eq-eqb}
 use Rattle.rules.specs.declared.Terms.{Terms}
 use Rattle.rules.specs.declared.Trade.{Trade}
 use Rattle.rules.specs.declared.Opening.the-variants.{Made}
+use Rattle.rules.specs.Refusal as refusal
 use Rattle.rules.specs.Text.{is}
 use Rattle.rules.specs.Figures.{heldForm, lots}
 use Rattle.rules.specs.Opening.{openingOf}
 use Rattle.rules.specs.Fields.{Field, Whole, Cut}
-use Rattle.rules.specs.Book.{Customer, overdrawn, Step, Stop, Next, Part, DueK, DueH, DueQ, DueTrade, Group, Nobody, Open, within, mayEnd, traded}
+use Rattle.rules.specs.Book.{Customer, overdrawn, astray, Step, Stop, Next, Part, DueK, DueH, DueQ, DueTrade, Group, Nobody, Open, refuse, within, mayEnd, traded}
 use Rattle.laws.specs.All2.{All2}
 use Rattle.laws.specs.Keeps.{Keeps, must-keeps, refuse-keeps, figure-keeps, trade-keeps}
 use Rattle.order.specs.Trades.{reading}
 use Rattle.consequences.specs.Runs.{then, stop-not, then-next}
-use Rattle.consequences.specs.Steps.{Any, must-next, trade-next}
+use Rattle.consequences.specs.Steps.{Any, must-next, refuse-next, trade-next}
 use Rattle.consequences.specs.Described.{inside}
 
 -- which part is due after a field
@@ -43,7 +44,9 @@ next-due terms DueH c t v = must-keeps Any (DueIs DueQ) tt (is "H" t) _ (figure-
 next-due terms DueQ c t v =
     must-keeps Any (DueIs DueTrade) tt (is "Q" t) _ (figure-keeps Any (DueIs DueTrade) heldForm v _ tt tt (λ q h.
     refuse-keeps Any (DueIs DueTrade) _ (overdrawn terms (record { long = c .position .long; short = c .position .short; unfilled = lots q })) _ tt (λ e. refl)))
-next-due terms DueTrade c t v = must-keeps Any (DueIs DueTrade) tt (is "B" t || is "A" t) _ (trade-keeps Any (DueIs DueTrade) (terms .decimals) (openingOf (is "B" t) v) _ tt tt (λ x. refl))
+next-due terms DueTrade c t v =
+    must-keeps Any (DueIs DueTrade) tt (is "B" t || is "A" t) _ (trade-keeps Any (DueIs DueTrade) (terms .decimals) (openingOf (is "B" t) v) _ tt tt (λ x.
+    refuse-keeps Any (DueIs DueTrade) _ (astray (terms .settlement) (x .price)) _ tt (λ e. refl)))
 
 next-holds : (terms : Terms) (part : Part) (c : Customer) (t : ℕ) (v : List ℕ) → mayEnd part ≡ false → Keeps Any (Holds (c .trades)) (within terms (Open part c) t v)
 unfolding within
@@ -83,28 +86,28 @@ led terms part c (Whole t v ∷ fs) last d e m n = go (within terms (Open part c
 
 -- ---- trades
 
--- a field is this trade, its price with so many decimals
-abbrev pub Trades : ℕ → Field → Trade → Type 0
-Trades decimals Cut x = ⊥
-Trades decimals (Whole t v) x = ((is "B" t || is "A" t) ≡ true) × (openingOf (is "B" t) v ≡ Made x decimals)
+-- a field is this trade under the terms: its price has as many decimals as they say, and is not too far from the settlement price
+abbrev pub Trades : Terms → Field → Trade → Type 0
+Trades terms Cut x = ⊥
+Trades terms (Whole t v) x = ((is "B" t || is "A" t) ≡ true) × (openingOf (is "B" t) v ≡ Made x (terms .decimals)) × (astray (terms .settlement) (x .price) ≡ false)
 
 abbrev pub holding : Customer → List Trade → Customer
 holding c ts = record { code = c .code; position = c .position; trades = ts }
 
 -- the fields of trades lead on with what is read of them
-pub trades-lead : (terms : Terms) (c : Customer) (fs : List Field) (ts : List Trade) → All2 (Trades (terms .decimals)) fs ts →
+pub trades-lead : (terms : Terms) (c : Customer) (fs : List Field) (ts : List Trade) → All2 (Trades terms) fs ts →
     inside terms (Open DueTrade c) fs ≡ Next (Open DueTrade (holding c (reading ts (c .trades))))
 unfolding within
 trades-lead terms c [] [] h = refl
 trades-lead terms c [] (t ∷ ts) h = absurd h
 trades-lead terms c (f ∷ fs) [] h = absurd h
 trades-lead terms c (Cut ∷ fs) (x ∷ ts) h = absurd (h .0)
-trades-lead terms c (Whole t v ∷ fs) (x ∷ ts) h = rw (h .0 .0, h .0 .1, eq-eqb (terms .decimals) (terms .decimals) refl) (trades-lead terms (traded c x) fs ts (h .1))
+trades-lead terms c (Whole t v ∷ fs) (x ∷ ts) h = rw (h .0 .0, h .0 .1, eq-eqb (terms .decimals) (terms .decimals) refl, h .0 .2) (trades-lead terms (traded c x) fs ts (h .1))
 
 -- and fields that lead to where a group ends are trades
 pub record Read (terms : Terms) (c : Customer) (fs : List Field) (last : Part) (d : Customer) : Type 0 where
   pub trades : List Trade
-  pub all : All2 (Trades (terms .decimals)) fs trades
+  pub all : All2 (Trades terms) fs trades
   pub due : last ≡ DueTrade
   pub held : d ≡ holding c (reading trades (c .trades))
 
@@ -115,7 +118,9 @@ trades-read terms c (Cut ∷ fs) last d e = stop-not e
 trades-read terms c (Whole t v ∷ fs) last d e =
     let (next, w, rest) = then-next (within terms (Open DueTrade c) t v) (λ next. inside terms next fs) (Open last d) e in
     let (tag, o) = must-next (is "B" t || is "A" t) _ next w in
-    let (x, written, is-next) = trade-next (terms .decimals) (openingOf (is "B" t) v) (λ x. Next (Open DueTrade (traded c x))) next o in
+    let judged : Trade → Step Group = λ x. refuse refusal.astray (astray (terms .settlement) (x .price)) (Next (Open DueTrade (traded c x))) in
+    let (x, written, is-good) = trade-next (terms .decimals) (openingOf (is "B" t) v) judged next o in
+    let (near, is-next) = refuse-next refusal.astray (astray (terms .settlement) (x .price)) (Next (Open DueTrade (traded c x))) next is-good in
     let same : Open DueTrade (traded c x) ≡ next = cc in
     let r = trades-read terms (traded c x) fs last d (ap (λ (g : Group). inside terms g fs) same ∙ rest) in
-    record { trades = x ∷ r .trades; all = ((tag, written), r .all); due = r .due; held = r .held }
+    record { trades = x ∷ r .trades; all = ((tag, written, near), r .all); due = r .due; held = r .held }

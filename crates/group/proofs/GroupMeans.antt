@@ -33,16 +33,16 @@ module _ (terms : Terms) (p : Position) (place first : ℕ) (fs : List Field) wh
   abbrev pub summed : TradesAt
   summed = tradesFrom (terms .decimals) (netLong p) (terms .settlement) first 0 (pos 0) noneYet fs
 
-  means : (code : List ℕ) → Means (netLong p) (terms .settlement) terms place (started p code) [] first fs summed
+  means : (code : List ℕ) → Means (netLong p) terms place (started p code) [] first fs summed
   means code =
-      run-means (netLong p) (terms .settlement) terms place (started p code) [] first 0 (pos 0) noneYet fs
+      run-means (netLong p) terms place (started p code) [] first 0 (pos 0) noneYet fs
       (adds-none (netLong p) (terms .settlement) (started p code) refl)
 
   pub group-refused : (r : Refusal) → summed ≡ Refused r → (code : List ℕ) →
       NoGroup r ≡ groupAt terms (groupFrom terms (Open DueTrade (started p code)) place first fs)
   group-refused r e code =
       let m : groupFrom terms (Open DueTrade (started p code)) place first fs ≡ Bad (r .number) (r .place) =
-      subst (Means (netLong p) (terms .settlement) terms place (started p code) [] first fs) e (means code) in
+      subst (Means (netLong p) terms place (started p code) [] first fs) e (means code) in
       rw m
 
   -- the total gain of a customer with the trades of the fields
@@ -50,8 +50,8 @@ module _ (terms : Terms) (p : Position) (place first : ℕ) (fs : List Field) wh
   total = newestOf (netLong p) (terms .settlement) (net p) fs
 
   module _ (at sum : ℕ) (gain : ℤ) (ordered : Bool) (e : summed ≡ Closed at sum gain ordered) where
-    ended : (code : List ℕ) → Ends (netLong p) (terms .settlement) terms place (started p code) [] first fs at sum gain ordered
-    ended code = subst (Means (netLong p) (terms .settlement) terms place (started p code) [] first fs) e (means code)
+    ended : (code : List ℕ) → Ends (netLong p) terms place (started p code) [] first fs at sum gain ordered
+    ended code = subst (Means (netLong p) terms place (started p code) [] first fs) e (means code)
 
     -- what its customer opens is what was summed up
     opens : (code : List ℕ) → opened (netLong p) (ended code .customer .trades) ≡ sum

@@ -11,7 +11,8 @@ use Rattle.rules.specs.declared.Fen.{Fen}
 use Rattle.rules.specs.declared.Trade.{Trade}
 use Rattle.rules.specs.Division.{sumOf}
 use Rattle.rules.specs.Fields.{Field}
-use Rattle.rules.specs.Book.{opened, begun, noTerms, withDecimals}
+use Rattle.rules.specs.declared.Terms.{Terms}
+use Rattle.rules.specs.Book.{opened, begun, noTerms, withDecimals, settled}
 use Rattle.rules.specs.Standing.{gainFrom}
 use Rattle.laws.specs.Gains.{lotsOn, oldestGain, newest-first, newest-size}
 use Rattle.order.specs.Order.{inFront, arranged}
@@ -30,9 +31,12 @@ use Rattle.trades.specs.Walk.{newestOf}
 
 module _ (x : ℕ) (long : Bool) (s : Fen) (first : ℕ) (fs : List Field) (place sum : ℕ) (gain : ℤ) (ordered : Bool)
     (reads : tradesFrom x long s first 0 (pos 0) noneYet fs ≡ Closed place sum gain ordered) where
-  -- whoever's they are, under whatever terms
-  ends : Ends long s (withDecimals noTerms x) 0 (begun []) [] first fs place sum gain ordered
-  ends = subst (Means long s (withDecimals noTerms x) 0 (begun []) [] first fs) reads (run-means long s (withDecimals noTerms x) 0 (begun []) [] first 0 (pos 0) noneYet fs (adds-none long s (begun []) refl))
+  -- whoever's they are, under whatever other terms
+  abbrev terms : Terms
+  terms = settled (withDecimals noTerms x) (s .0)
+
+  ends : Ends long terms 0 (begun []) [] first fs place sum gain ordered
+  ends = subst (Means long terms 0 (begun []) [] first fs) reads (run-means long terms 0 (begun []) [] first 0 (pos 0) noneYet fs (adds-none long s (begun []) refl))
 
   pub lots-are : sum ≡ sumOf (lotsOn long) (tradesIn fs)
   lots-are =

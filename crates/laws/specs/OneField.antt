@@ -16,6 +16,7 @@ use Rattle.rules.specs.Opening.{openingOf}
 use Rattle.rules.specs.Book.{
   Customer,
   overdrawn,
+  astray,
   Stop,
   Next,
   Part,
@@ -125,4 +126,5 @@ part-leads terms DueQ c t v =
     (record { above = omega arith; own = refl }) (λ e. record { code = refl; long = λ l. l; short = λ l. l })))
 part-leads terms DueTrade c t v =
     must-keeps AtTag (FurtherGroup c) misplaced (is "B" t || is "A" t) _ (trade-keeps AtTag (FurtherGroup c) (terms .decimals) (openingOf (is "B" t) v) _ comma malformed (λ x.
-    record { code = refl; long = λ l. l; short = λ l. l }))
+    refuse-keeps AtTag (FurtherGroup c) refusal.astray (astray (terms .settlement) (x .price)) _
+    (record { above = omega arith; own = refl }) (λ e. record { code = refl; long = λ l. l; short = λ l. l })))

@@ -35,7 +35,7 @@ module _ (s : List ℕ) (at t start end : ℕ) (k : Stands s at t start end) whe
       tradesFrom x long p at sum gain o (fieldsOf (drop at s))
       ≡ cond (is "C" t || is "Z" t) (Closed at sum gain (o .kept))
       (cond (is "B" t || is "A" t)
-      (opening x at (openingOf (is "B" t) (value s at t start end k)) λ u.
+      (opening x p at (openingOf (is "B" t) (value s at t start end k)) λ u.
       tradesFrom x long p end (sum + lotsOn long u) (gain +ℤ gainOf long p (u .price) (lotsOn long u)) (orderAfter long o u) (fieldsOf (drop end s)))
       (Refused (refusedAt refusal.misplaced at)))
   trades-found x long p sum gain o = rw (k .fields, ends s at t start end k)

@@ -15,6 +15,7 @@ use Rattle.rules.specs.Refusal as refusal
 use Rattle.rules.specs.Text.{is}
 use Rattle.rules.specs.Opening.{openingOf}
 use Rattle.rules.specs.Fields.{Field, Whole, Cut}
+use Rattle.rules.specs.Book.{astray}
 use Rattle.rules.specs.Standing.{gainOf}
 use Rattle.laws.specs.ByTest.{by-test}
 use Rattle.laws.specs.Gains.{lotsOn}
@@ -44,6 +45,9 @@ module _ (x : ℕ) (long : Bool) (s : Fen) (place sum : ℕ) (total : ℤ) (kept
       go false true Malformed ec eb ex ih = absurd (refused-not-closed {r = refusedAt refusal.malformed at} (sym (rw (ec, eb, ex)) ∙ h))
       go false true (Made u d) ec eb ex ih =
           by-test (eqb d x)
-          (λ e. rw (eb, ex)
-          (ih (at + 3 + length v) (o + lotsOn long u) (g +ℤ gainOf long s (u .price) (lotsOn long u)) (orderAfter long order u) (sym (rw (ec, eb, ex, e)) ∙ h)))
+          (λ e.
+          by-test (astray s (u .price))
+          (λ far. absurd (refused-not-closed {r = refusedAt refusal.astray at} (sym (rw (ec, eb, ex, e, far)) ∙ h)))
+          (λ near. rw (eb, ex)
+          (ih (at + 3 + length v) (o + lotsOn long u) (g +ℤ gainOf long s (u .price) (lotsOn long u)) (orderAfter long order u) (sym (rw (ec, eb, ex, e, near)) ∙ h))))
           (λ e. absurd (refused-not-closed {r = refusedAt refusal.malformed at} (sym (rw (ec, eb, ex, e)) ∙ h)))

@@ -7,7 +7,6 @@ use mathlib.Core.Bool.{Bool, true, false, cond, _||_}
 use lib.ListN.{length}
 use lib.Dec.{eqb}
 use lib.IntN.{ℤ, _+ℤ_}
-use Rattle.rules.specs.declared.Fen.{Fen}
 use Rattle.rules.specs.declared.Terms.{Terms}
 use Rattle.rules.specs.declared.Trade.{Trade}
 use Rattle.rules.specs.declared.Opening.{Opening}
@@ -16,7 +15,7 @@ use Rattle.rules.specs.Refusal as refusal
 use Rattle.rules.specs.Text.{is}
 use Rattle.rules.specs.Opening.{openingOf}
 use Rattle.rules.specs.Fields.{Field, Whole, Cut}
-use Rattle.rules.specs.Book.{Customer, opened, DueTrade, Open, traded, within}
+use Rattle.rules.specs.Book.{Customer, opened, astray, DueTrade, Open, traded, within}
 use Rattle.rules.specs.Standing.{gainOf}
 use Rattle.laws.specs.ByTest.{by-test}
 use Rattle.laws.specs.Figures.{opening-within}
@@ -33,7 +32,7 @@ use Rattle.trades.specs.Trades.{opening, orderAfter, tradesFrom}
 use Rattle.trades.specs.Walk.{tradesIn}
 use Rattle.trades.proofs.Adds.{closing-no-trade, Adds, adds-more}
 
-module _ (long : Bool) (s : Fen) (terms : Terms) (lastC : ℕ) where
+module _ (long : Bool) (terms : Terms) (lastC : ℕ) where
   -- the group ends with a customer who holds the trades of c, which stand in the book as ts, and those of the fields; the latest place is first
   pub record Ends (c : Customer) (ts : List Trade) (at : ℕ) (fs : List Field) (place sum : ℕ) (gain : ℤ) (ordered : Bool) : Type 0 where
     pub customer : Customer
@@ -44,7 +43,7 @@ module _ (long : Bool) (s : Fen) (terms : Terms) (lastC : ℕ) where
     pub stand : latest ≡ inFront (tradesIn fs) ts
     pub held : customer .trades ≡ arranged when latest
     pub lots : sum ≡ opened long latest
-    pub gained : gain ≡ allGain long s latest
+    pub gained : gain ≡ allGain long (terms .settlement) latest
     pub order : ordered ≡ true → OnSideInOrder long latest
     pub priced : Priced (customer .trades)
 
@@ -54,17 +53,17 @@ module _ (long : Bool) (s : Fen) (terms : Terms) (lastC : ℕ) where
 
   module _ (c : Customer) (ts : List Trade) (at : ℕ) (t : ℕ) (v : List ℕ) (fs : List Field) (plain : (is "C" t || is "Z" t) ≡ false) where
     -- a refusal, and a customer, of the fields after a trade are those of the fields with it
-    extend : (x : Trade) (d : ℕ) → (is "B" t || is "A" t) ≡ true → openingOf (is "B" t) v ≡ Made x d → eqb d (terms .decimals) ≡ true → (r : TradesAt) →
+    extend : (x : Trade) (d : ℕ) → (is "B" t || is "A" t) ≡ true → openingOf (is "B" t) v ≡ Made x d → eqb d (terms .decimals) ≡ true → astray (terms .settlement) (x .price) ≡ false → (r : TradesAt) →
         Means (traded c x) (x ∷ ts) (at + 3 + length v) fs r → Means c ts at (Whole t v ∷ fs) r
     unfolding within
-    extend x d b e places (Refused r) m = rw (plain, b, e, places) m
-    extend x d b e places (Closed place sum gain ordered) m =
+    extend x d b e places near (Refused r) m = rw (plain, b, e, places, near) m
+    extend x d b e places near (Closed place sum gain ordered) m =
         record {
           customer = m .customer;
           back = m .back;
           latest = m .latest;
           position = m .position;
-          reads = rw (plain, b, e, places) (m .reads);
+          reads = rw (plain, b, e, places, near) (m .reads);
           stand = rw (b, e) (m .stand);
           held = m .held;
           lots = m .lots;
@@ -73,21 +72,21 @@ module _ (long : Bool) (s : Fen) (terms : Terms) (lastC : ℕ) where
           priced = m .priced;
         }
 
-  pub run-means : (c : Customer) (ts : List Trade) (at sum : ℕ) (gain : ℤ) (o : Order) (fs : List Field) → Adds long s c ts sum gain o →
-      Means c ts at fs (tradesFrom (terms .decimals) long s at sum gain o fs)
+  pub run-means : (c : Customer) (ts : List Trade) (at sum : ℕ) (gain : ℤ) (o : Order) (fs : List Field) → Adds long (terms .settlement) c ts sum gain o →
+      Means c ts at fs (tradesFrom (terms .decimals) long (terms .settlement) at sum gain o fs)
   unfolding within
   run-means c ts at sum gain o [] a = refl
   run-means c ts at sum gain o (Cut ∷ fs) a = refl
   run-means c ts at sum gain o (Whole t v ∷ fs) a =
       go (is "C" t || is "Z" t) (is "B" t || is "A" t) (openingOf (is "B" t) v) refl refl refl
-      (λ x w. run-means (traded c x) (x ∷ ts) (at + 3 + length v) (sum + lotsOn long x) (gain +ℤ gainOf long s (x .price) (lotsOn long x)) (orderAfter long o x) fs w)
+      (λ x w. run-means (traded c x) (x ∷ ts) (at + 3 + length v) (sum + lotsOn long x) (gain +ℤ gainOf long (terms .settlement) (x .price) (lotsOn long x)) (orderAfter long o x) fs w)
     where
       go : (p₁ p₂ : Bool) (read : Opening) → (is "C" t || is "Z" t) ≡ p₁ → (is "B" t || is "A" t) ≡ p₂ → openingOf (is "B" t) v ≡ read →
-          ((x : Trade) → Adds long s (traded c x) (x ∷ ts) (sum + lotsOn long x) (gain +ℤ gainOf long s (x .price) (lotsOn long x)) (orderAfter long o x) →
-          Means (traded c x) (x ∷ ts) (at + 3 + length v) fs (tradesFrom (terms .decimals) long s (at + 3 + length v) (sum + lotsOn long x) (gain +ℤ gainOf long s (x .price) (lotsOn long x)) (orderAfter long o x) fs)) →
+          ((x : Trade) → Adds long (terms .settlement) (traded c x) (x ∷ ts) (sum + lotsOn long x) (gain +ℤ gainOf long (terms .settlement) (x .price) (lotsOn long x)) (orderAfter long o x) →
+          Means (traded c x) (x ∷ ts) (at + 3 + length v) fs (tradesFrom (terms .decimals) long (terms .settlement) (at + 3 + length v) (sum + lotsOn long x) (gain +ℤ gainOf long (terms .settlement) (x .price) (lotsOn long x)) (orderAfter long o x) fs)) →
           Means c ts at (Whole t v ∷ fs)
           (cond p₁ (Closed at sum gain (o .kept))
-          (cond p₂ (opening (terms .decimals) at read λ x. tradesFrom (terms .decimals) long s (at + 3 + length v) (sum + lotsOn long x) (gain +ℤ gainOf long s (x .price) (lotsOn long x)) (orderAfter long o x) fs)
+          (cond p₂ (opening (terms .decimals) (terms .settlement) at read λ x. tradesFrom (terms .decimals) long (terms .settlement) (at + 3 + length v) (sum + lotsOn long x) (gain +ℤ gainOf long (terms .settlement) (x .price) (lotsOn long x)) (orderAfter long o x) fs)
           (Refused (refusedAt refusal.misplaced at))))
       go true p₂ read e b m ih =
           record {
@@ -108,7 +107,10 @@ module _ (long : Bool) (s : Fen) (terms : Terms) (lastC : ℕ) where
       go false true Malformed e b m ih = rw (e, b, m)
       go false true (Made x d) e b m ih =
           let w = opening-within (is "B" t) v x d m in
-          let r = tradesFrom (terms .decimals) long s (at + 3 + length v) (sum + lotsOn long x) (gain +ℤ gainOf long s (x .price) (lotsOn long x)) (orderAfter long o x) fs in
+          let r = tradesFrom (terms .decimals) long (terms .settlement) (at + 3 + length v) (sum + lotsOn long x) (gain +ℤ gainOf long (terms .settlement) (x .price) (lotsOn long x)) (orderAfter long o x) fs in
           by-test (eqb d (terms .decimals))
-          (λ places. rw places (extend c ts at t v fs e x d b m places r (ih x (adds-more long s c ts sum gain o x (w .price-most) (w .lots-most) a))))
+          (λ places.
+          by-test (astray (terms .settlement) (x .price))
+          (λ far. rw (places, far) (rw (e, b, m, places, far)))
+          (λ near. rw (places, near) (extend c ts at t v fs e x d b m places near r (ih x (adds-more long (terms .settlement) c ts sum gain o x (w .price-most) (w .lots-most) a)))))
           (λ places. rw places (rw (e, b, m, places)))

@@ -14,7 +14,7 @@ use Rattle.rules.specs.Refusal as refusal
 use Rattle.rules.specs.Text.{is}
 use Rattle.rules.specs.Opening.{openingOf}
 use Rattle.rules.specs.Fields.{Field, Whole, Cut}
-use Rattle.rules.specs.Book.{onSide}
+use Rattle.rules.specs.Book.{onSide, astray}
 use Rattle.rules.specs.Standing.{gainOf}
 use Rattle.laws.specs.Gains.{lotsOn}
 use Rattle.trades.specs.declared.Order.{Order}
@@ -22,11 +22,11 @@ use Rattle.trades.specs.declared.TradesAt.{TradesAt}
 use Rattle.trades.specs.declared.TradesAt.the-variants.{Closed, Refused}
 use Rattle.fields.specs.Reading.{refusedAt}
 
--- a trade whose price has x decimals
-abbrev pub opening : ℕ → ℕ → Opening → (Trade → TradesAt) → TradesAt
-opening x at (Made t d) k = cond (eqb d x) (k t) (Refused (refusedAt refusal.malformed at))
-opening x at Comma k = Refused (refusedAt refusal.comma at)
-opening x at Malformed k = Refused (refusedAt refusal.malformed at)
+-- a trade whose price has x decimals and is not too far from s
+abbrev pub opening : ℕ → Fen → ℕ → Opening → (Trade → TradesAt) → TradesAt
+opening x s at (Made t d) k = cond (eqb d x) (cond (astray s (t .price)) (Refused (refusedAt refusal.astray at)) (k t)) (Refused (refusedAt refusal.malformed at))
+opening x s at Comma k = Refused (refusedAt refusal.comma at)
+opening x s at Malformed k = Refused (refusedAt refusal.malformed at)
 
 -- no trade on the side yet
 abbrev pub noneYet : Order
@@ -42,6 +42,6 @@ module _ (x : ℕ) (long : Bool) (s : Fen) where
   tradesFrom at opened gain o (Whole t v ∷ fs) =
       cond (is "C" t || is "Z" t) (Closed at opened gain (o .kept))
       (cond (is "B" t || is "A" t)
-      (opening x at (openingOf (is "B" t) v) λ u.
+      (opening x s at (openingOf (is "B" t) v) λ u.
       tradesFrom (at + 3 + length v) (opened + lotsOn long u) (gain +ℤ gainOf long s (u .price) (lotsOn long u)) (orderAfter long o u) fs)
       (Refused (refusedAt refusal.misplaced at)))

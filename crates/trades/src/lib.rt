@@ -14,6 +14,7 @@ ghost use lib.IntN.{pos};
 ghost use lib.ListN.{drop};
 ghost use Rattle.rules.specs.Text.{is};
 ghost use Rattle.rules.specs.Fields.{fieldsOf};
+ghost use Rattle.rules.specs.Book as book;
 ghost use Rattle.rules.specs.Book.{onSide};
 ghost use Rattle.laws.specs.Gains.{lotsOn};
 ghost use Rattle.fields.specs.Ranges.{Short};
@@ -93,8 +94,16 @@ fn is_closing(tag: u8) -> bool
     tag == tag::C || tag == tag::Z
 }
 
+// A price above five times the settlement price, or below a fifth of it.
+fn astray(settlement: Fen, price: Fen) -> bool
+    requires { ⌜ settlement .0 ≤ 9_999_999 ⌝ ∗ ⌜ price .0 ≤ 9_999_999 ⌝ }
+    ensures { λ r. ⌜ r ≡ book.astray settlement price ⌝ }
+{
+    5 * settlement.0 < price.0 || 5 * price.0 < settlement.0
+}
+
 // All trades of a group from a place on, up to the field that closes it: their lots on a side, the gain of these, and whether they come in
-// order. Their prices have so many decimals.
+// order. Their prices have so many decimals, and are not too far from the settlement price.
 pub fn read_trades(
     book: &[u8],
     decimals: usize,
@@ -134,6 +143,9 @@ pub fn read_trades(
             } => {
                 if written != decimals {
                     return no_trades(refusal::MALFORMED, at);
+                }
+                if astray(settlement, t.price) {
+                    return no_trades(refusal::ASTRAY, at);
                 }
                 let n = lots_on(long, t);
                 gain += gain::gain_of(long, settlement, t.price, n);

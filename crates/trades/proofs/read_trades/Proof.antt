@@ -19,6 +19,7 @@ use Rattle.rules.specs.Refusal as refusal
 use Rattle.rules.specs.Text.{is}
 use Rattle.rules.specs.Opening.{openingOf}
 use Rattle.rules.specs.Fields.{fieldsOf}
+use Rattle.rules.specs.Book.{astray}
 use Rattle.rules.specs.Standing.{gainOf}
 use Rattle.laws.specs.Figures.{OpeningWithin, opening-within}
 use Rattle.laws.specs.Gains.{lotsOn}
@@ -76,7 +77,7 @@ module _ (c : tie.After-known-told Inv-loop μ-loop) where
       tradesFrom (a .decimals) (a .long) (a .settlement) (a .first) 0 (pos 0) noneYet (fieldsOf (drop (a .first) book))
       ≡ cond (is "C" tag || is "Z" tag) (Closed (l .at) (l .opened) gain (l .order .kept))
       (cond (is "B" tag || is "A" tag)
-      (opening (a .decimals) (l .at) (openingOf (is "B" tag) (take (end - start) (drop start book))) λ x.
+      (opening (a .decimals) (a .settlement) (l .at) (openingOf (is "B" tag) (take (end - start) (drop start book))) λ x.
       tradesFrom (a .decimals) (a .long) (a .settlement) end (l .opened + lotsOn (a .long) x) (gain +ℤ gainOf (a .long) (a .settlement) (x .price) (lotsOn (a .long) x)) (orderAfter (a .long) (l .order) x) (fieldsOf (drop end book)))
       (Refused (refusedAt refusal.misplaced (l .at))))
   turned =
@@ -106,14 +107,18 @@ module _ (c : tie.After-known-told2 Inv-loop μ-loop) where
   was-made : openingOf (is "B" (tag field-of)) (take (end field-of - start field-of) (drop (start field-of) (book field-of))) ≡ Made made-of written
   was-made = sym (opening-read .read-opening .ensures) ∙ c .before .t .given .1
 
-  -- it is judged by them, and the reading goes on from its end
+  range : OpeningWithin (is "B" (tag field-of)) made-of
+  range = opening-within (is "B" (tag field-of)) _ made-of written was-made
+
+  -- it is judged by them and by its price, and the reading goes on from its end
   judged :
       let a = start-of field-of .args in
       let l = at-loop field-of .loop in
       let n = lotsOn (a .long) made-of in
       tradesFrom (a .decimals) (a .long) (a .settlement) (a .first) 0 (pos 0) noneYet (fieldsOf (drop (a .first) (book field-of)))
       ≡ cond (eqb written (a .decimals))
-      (tradesFrom (a .decimals) (a .long) (a .settlement) (end field-of) (l .opened + n) (toZ w64 (l .gain) +ℤ gainOf (a .long) (a .settlement) (made-of .price) n) (orderAfter (a .long) (l .order) made-of) (fieldsOf (drop (end field-of) (book field-of))))
+      (cond (astray (a .settlement) (made-of .price)) (Refused (refusedAt refusal.astray (l .at)))
+      (tradesFrom (a .decimals) (a .long) (a .settlement) (end field-of) (l .opened + n) (toZ w64 (l .gain) +ℤ gainOf (a .long) (a .settlement) (made-of .price) n) (orderAfter (a .long) (l .order) made-of) (fieldsOf (drop (end field-of) (book field-of)))))
       (Refused (refusedAt refusal.malformed (l .at)))
   judged =
       let o = opening-read .before .before in
@@ -123,7 +128,7 @@ module _ (c : tie.After-known-told2 Inv-loop μ-loop) where
 -- and counted
 module _ (c : tie.After-lots-on Inv-loop μ-loop) where
   abbrev right : tie.After-known-told2 Inv-loop μ-loop
-  right = c .before .before
+  right = c .before .before .before .before
 
   abbrev field-read : tie.After-known-told Inv-loop μ-loop
   field-read = field-of right
@@ -144,14 +149,11 @@ module _ (c : tie.After-lots-on Inv-loop μ-loop) where
   counts =
       let a = start-of field-read .args in
       let l = at-loop field-read .loop in
-      simp (judged right, eq-eqb (written right) (a .decimals) (c .before .if3 .left))
+      simp (judged right, eq-eqb (written right) (a .decimals) (c .before .before .before .if3 .left), sym (c .before .before .astray .ensures) ∙ c .before .if4 .left)
       (ap (λ (n : ℕ). tradesFrom (a .decimals) (a .long) (a .settlement) (end field-read) (l .opened + n) (toZ w64 (l .gain) +ℤ gainOf (a .long) (a .settlement) (made .price) n) (orderAfter (a .long) (l .order) made) (fieldsOf (drop (end field-read) (book field-read)))) (sym (c .lots-on .ensures)))
 
-  range : OpeningWithin (is "B" (tag field-read)) made
-  range = opening-within (is "B" (tag field-read)) _ made (written right) (was-made right)
-
   few : c .lots-on .result ≤ 1000000
-  few = omega (arith, c .lots-on .ensures, lots-on-most (start-of field-read .args .long) made, range .lots-most)
+  few = omega (arith, c .lots-on .ensures, lots-on-most (start-of field-read .args .long) made, range right .lots-most)
 
   bounded : at-loop field-read .loop .opened + c .lots-on .result ≤ 68719476736
   bounded = omega (arith, few, short field-read, there field-read .begins, there field-read .order, at-loop field-read .loop .inv .0)
@@ -216,11 +218,24 @@ no-trades-requires-3 c κs = search needs
 returns-4 : tie.Need-returns-4 Inv-loop μ-loop
 returns-4 c = let k = c .before .before in c .no-trades3 .ensures ∙ simp (judged k, ne-eqb (written k) _ (c .before .if3 .taken))
 
+astray-requires : tie.Need-astray-requires Inv-loop μ-loop
+astray-requires c κs = let k = c .before in (start-of (field-of k) .pre .1, range k .price-most)
+
+no-trades-requires-4 : tie.Need-no-trades-requires-4 Inv-loop μ-loop
+no-trades-requires-4 c κs = search needs
+
+-- a price too far from the settlement price
+returns-5 : tie.Need-returns-5 Inv-loop μ-loop
+returns-5 c =
+    let f = c .before .before in
+    let k = f .before .before in
+    c .no-trades4 .ensures ∙ simp (judged k, eq-eqb (written k) _ (f .before .if3 .left), sym (f .astray .ensures) ∙ c .before .if4 .taken)
+
 lots-on-requires : tie.Need-lots-on-requires Inv-loop μ-loop
 lots-on-requires c κs = search needs
 
 gain-of-requires : tie.Need-gain-of-requires Inv-loop μ-loop
-gain-of-requires c κs = record { settlement = start-of (field-read c) .pre .1; price = range c .price-most; lots = omega (arith, few c) }
+gain-of-requires c κs = record { settlement = start-of (field-read c) .pre .1; price = range (right c) .price-most; lots = omega (arith, few c) }
 
 add-gain : tie.Need-add-gain Inv-loop μ-loop
 add-gain c =
@@ -237,21 +252,21 @@ order-after-requires c κs = search needs
 enum-told-2 : tie.Need-enum-told-2 Inv-loop μ-loop
 enum-told-2 c = search needs
 
-no-trades-requires-4 : tie.Need-no-trades-requires-4 Inv-loop μ-loop
-no-trades-requires-4 c κs = search needs
+no-trades-requires-5 : tie.Need-no-trades-requires-5 Inv-loop μ-loop
+no-trades-requires-5 c κs = search needs
 
 -- a value that is no trade
-returns-5 : tie.Need-returns-5 Inv-loop μ-loop
-returns-5 c = let o = c .before .before .before in let t = o .before .before .before in let k = t .before .before in c .no-trades4 .ensures ∙ simp (turned (k .before), sym (k .is-closing .ensures) ∙ t .before .if1 .left, sym (t .is-trade .ensures) ∙ not-false _ (o .before .before .if2 .left), sym (o .read-opening .ensures) ∙ c .before .enum-told2 .given .1)
+returns-6 : tie.Need-returns-6 Inv-loop μ-loop
+returns-6 c = let o = c .before .before .before in let t = o .before .before .before in let k = t .before .before in c .no-trades5 .ensures ∙ simp (turned (k .before), sym (k .is-closing .ensures) ∙ t .before .if1 .left, sym (t .is-trade .ensures) ∙ not-false _ (o .before .before .if2 .left), sym (o .read-opening .ensures) ∙ c .before .enum-told2 .given .1)
 
 enum-told-3 : tie.Need-enum-told-3 Inv-loop μ-loop
 enum-told-3 c = search needs
 
-no-trades-requires-5 : tie.Need-no-trades-requires-5 Inv-loop μ-loop
-no-trades-requires-5 c κs = search needs
+no-trades-requires-6 : tie.Need-no-trades-requires-6 Inv-loop μ-loop
+no-trades-requires-6 c κs = search needs
 
-returns-6 : tie.Need-returns-6 Inv-loop μ-loop
-returns-6 c = let o = c .before .before .before in let t = o .before .before .before in let k = t .before .before in c .no-trades5 .ensures ∙ simp (turned (k .before), sym (k .is-closing .ensures) ∙ t .before .if1 .left, sym (t .is-trade .ensures) ∙ not-false _ (o .before .before .if2 .left), sym (o .read-opening .ensures) ∙ c .before .enum-told3 .given .1)
+returns-7 : tie.Need-returns-7 Inv-loop μ-loop
+returns-7 c = let o = c .before .before .before in let t = o .before .before .before in let k = t .before .before in c .no-trades6 .ensures ∙ simp (turned (k .before), sym (k .is-closing .ensures) ∙ t .before .if1 .left, sym (t .is-trade .ensures) ∙ not-false _ (o .before .before .if2 .left), sym (o .read-opening .ensures) ∙ c .before .enum-told3 .given .1)
 
 loop-less : tie.Need-loop-less Inv-loop μ-loop
 loop-less c = let k = field-read (c .before .before) in omega (arith, there k .begins, there k .order, there k .inside)
@@ -297,16 +312,19 @@ read-trades-spec =
     enum-known-t
     no-trades-requires-3
     returns-4
+    astray-requires
+    no-trades-requires-4
+    returns-5
     lots-on-requires
     gain-of-requires
     add-gain
     add-opened
     order-after-requires
     enum-told-2
-    no-trades-requires-4
-    returns-5
-    enum-told-3
     no-trades-requires-5
     returns-6
+    enum-told-3
+    no-trades-requires-6
+    returns-7
     loop-less
     loop-again)
