@@ -46,7 +46,7 @@ of-fields = refl
 
 -- every number at the settlement price S, whose place among the tags is 2; and numbers that are none
 pub of-numbers :
-    map (λ (n : ℕ). reason n 2) (0 ∷ 1 ∷ 2 ∷ 3 ∷ 4 ∷ 5 ∷ 6 ∷ 7 ∷ 8 ∷ 9 ∷ 10 ∷ 11 ∷ 12 ∷ 4294967296 ∷ []) ≡
+    map (λ (n : ℕ). reason n 2) (0 ∷ 1 ∷ 2 ∷ 3 ∷ 4 ∷ 5 ∷ 6 ∷ 7 ∷ 8 ∷ 9 ∷ 10 ∷ 11 ∷ 12 ∷ 13 ∷ 4294967296 ∷ []) ≡
     map bytes (
     "accepted"
     ∷ "the book has more than 60,000 bytes"
@@ -60,6 +60,7 @@ pub of-numbers :
     ∷ "this customer's opening trades on its net side sum to less than its net position"
     ∷ "more than 256 customers"
     ∷ "the report is longer than the buffer"
+    ∷ "this trade's price is above five times the settlement price S or below a fifth of it"
     ∷ "no such number"
     ∷ "no such number"
     ∷ []

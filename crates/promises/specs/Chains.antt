@@ -132,7 +132,7 @@ module _ {A : Type 0} where
       (parts-chain x bought (number price) (length (behindPoint price)) (number sold) (madeAt v) next (isWritten price) (isFigure tradedForm sold)
       (isStamp (upToBlank (behindLots v)) (afterBlank (behindLots v)))))
 
-  -- 6 and 8 are asked of a value that is of its form
+  -- 6, 8 and 12 are asked of a value that is of its form
   pub last-chain : (m n : ℕ) (good b : Bool) (next : Step A) → refuse m (not good) (refuse n b next) ≡ refuse m (not good) (refuse n (good && b) next)
   last-chain m n true b next = refl
   last-chain m n false b next = refl

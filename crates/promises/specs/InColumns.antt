@@ -50,7 +50,7 @@ seen-by c h = seen (bookOf c) (placesOf (lentTo c)) (sym (of-contract c .number)
 pub demand-2-columns : (c : ViewCall) → c .answer .number ≡ 0 → (f : Seen (bookOf c) (placesOf (lentTo c))) × InRuns c (f .terms) (f .customers)
 demand-2-columns c h = let f = seen-by c h in (f, in-runs c f)
 
--- Demand 1: 1 to 10 by the table, or 11 with a sound book
+-- Demand 1: 1 to 10 and 12 by the table, or 11 with a sound book
 pub data WhyNot (s : List ℕ) (room : ℕ) : ℕ → ℕ → Type 0 where
   by-the-book : {n place : ℕ} → Given s n place → WhyNot s room n place
   no-room : {terms : Terms} {cs : List Customer} → judge s ≡ Accepted terms cs → room < length cs → WhyNot s room refusal.noRoom (length cs)

@@ -1,6 +1,6 @@
--- docs/RULES.md, sections 6 and 7. Document 01, "Refusal numbers": for each rule that one field can break a test of its own, and the order of the rules.
+-- docs/RULES.md, sections 6 and 7. Document 01, "Refusal numbers", and request [4]: for each rule that one field can break a test of its own, and the order of the rules.
 -- Assumes nothing.
-use Prim.Native.Nat.{ℕ}
+use Prim.Native.Nat.{ℕ, _*_}
 use Prim.Native.Char.{Char}
 use mathlib.Core.Path.{_≡_}
 use mathlib.Core.Bool.{Bool, true, false, cond, not, _&&_, _||_}
@@ -127,10 +127,18 @@ rule9 = rule refusal.uncovered (λ due t v. (stands "C" due t || stands "Z" due 
 abbrev pub rule10 : Rule
 rule10 = rule refusal.tooMany (λ due t v. stands "C" due t && leb mostCustomers (length (customersRead due)))
 
--- "For one field: 2, 3, then (at C or Z after a customer) 9 for that customer, then 10, 4, 5, then 6 at V, 7 at C, 8 at Q." A field has a tag and a
--- value only where 2 is not broken
+-- "Refuse a trade price above five times S or below a fifth of S": of every trade, whether its lots count or not
+abbrev pub rule12 : Rule
+rule12 =
+    rule refusal.astray (λ due t v.
+    let s = termsRead due .settlement .0 in
+    let price = number (upToBlank v) in
+    (stands "B" due t || stands "A" due t) && isTrade (termsRead due .decimals) v && (ltb (5 * s) price || ltb (5 * price) s))
+
+-- "For one field: 2, 3, then (at C or Z after a customer) 9 for that customer, then 10, 4, 5, then 6 at V, 7 at C, 8 at Q", and "12, at the trade's
+-- tag, after 4 and 5 for that field". A field has a tag and a value only where 2 is not broken
 abbrev pub inOrder : List Rule
-inOrder = rule3 ∷ rule9 ∷ rule10 ∷ rule4 ∷ rule5 ∷ rule6 ∷ rule7 ∷ rule8 ∷ []
+inOrder = rule3 ∷ rule9 ∷ rule10 ∷ rule4 ∷ rule5 ∷ rule12 ∷ rule6 ∷ rule7 ∷ rule8 ∷ []
 
 module _ (due : Due) (t : ℕ) (v : List ℕ) where
   -- of rules in order, the first that the field breaks has number n

@@ -63,6 +63,7 @@ plain =
     bytes "this customer's opening trades on its net side sum to less than its net position\n" ++
     bytes "more than 256 customers\n" ++
     bytes "the report is longer than the buffer\n" ++
+    bytes "this trade's price is above five times the settlement price S or below a fifth of it\n" ++
     bytes "no such number\n" ++
     bytes "the book ends where a field is due\n"
 
@@ -74,7 +75,7 @@ unfoldable pub withField : ℕ → ℕ → List ℕ
 withField n f = lineOf n leads ++ lineOf f names
 
 abbrev pub plainLine : ℕ → ℕ → ℕ
-plainLine n f = cond (eqb f 14) (cond (eqb n 2) 13 (min n 12)) (min n 12)
+plainLine n f = cond (eqb f 14) (cond (eqb n 2) 14 (min n 13)) (min n 13)
 
 unfoldable pub reason : ℕ → ℕ → List ℕ
 reason n f = cond (named n f) (withField n f) (lineOf (plainLine n f) plain)

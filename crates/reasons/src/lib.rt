@@ -22,9 +22,9 @@ const NO_TAG: usize = 13;
 const BEHIND: usize = 14;
 
 // The line after those of all numbers, and the one after it, for a book that has ended where a field is due.
-const NO_NUMBER: u64 = 12;
+const NO_NUMBER: u64 = 13;
 
-const ENDED: usize = 13;
+const ENDED: usize = 14;
 
 // How many lines are still to be passed, behind this byte.
 fn lines_left(left: usize, byte: u8) -> usize
@@ -153,7 +153,7 @@ pub fn put_reason(out: &mut [u8], at: usize, number: u64, field: usize) -> usize
     put_line(
         out,
         at,
-        b"accepted\nthe book has more than 60,000 bytes\nthe book ends before the end of a field\na byte that is no tag, or that follows Z\na comma in a figure\na value that is not of its form or range\nthe tier 1 edge U is not greater than the tier 2 edge V\nthis customer code was given before\nthe unfilled lots Q exceed the lots held on the locked side\nthis customer's opening trades on its net side sum to less than its net position\nmore than 256 customers\nthe report is longer than the buffer\nno such number\nthe book ends where a field is due\n",
+        b"accepted\nthe book has more than 60,000 bytes\nthe book ends before the end of a field\na byte that is no tag, or that follows Z\na comma in a figure\na value that is not of its form or range\nthe tier 1 edge U is not greater than the tier 2 edge V\nthis customer code was given before\nthe unfilled lots Q exceed the lots held on the locked side\nthis customer's opening trades on its net side sum to less than its net position\nmore than 256 customers\nthe report is longer than the buffer\nthis trade's price is above five times the settlement price S or below a fifth of it\nno such number\nthe book ends where a field is due\n",
         plain_line(number, field),
     )
 }

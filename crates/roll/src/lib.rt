@@ -228,7 +228,7 @@ fn read_customers(
     }
 }
 
-// All customers of a book, into the columns, or its refusal with numbers 1 to 10.
+// All customers of a book, into the columns, or its refusal with numbers 1 to 10 and 12.
 pub fn read_roll(
     book: &[u8],
     keys: &mut [u64],
