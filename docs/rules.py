@@ -74,6 +74,12 @@ REFUSED = [
     GOLD + customer("A", "0", "0", "0", ("B", "400.00 1")) + END,
     GOLD + customer("A", "0", "0", "0", ("B", "400.00 1 20250431 1000")) + END,
     GOLD + customer("A", "0", "0", "0", ("B", "400.00 1 20250431 10,0")) + END,
+    GOLD + customer("A", "0", "0", "0", ("B", "40000.00 1" + STAMP)) + END,
+    GOLD + customer("A", "0", "0", "0", ("A", "4.00 1" + STAMP)),
+    GOLD + customer("A", "0", "0", "0", ("B", "40000.00 1,0" + STAMP)) + END,
+    GOLD + customer("A", "0", "0", "0", ("B", "40000.00 0" + STAMP)) + END,
+    GOLD + customer("A", "0", "0", "0", ("B", "4000000 1" + STAMP)) + END,
+    GOLD + LACKING + field("A", "40000.00 1" + STAMP) + END,
     GOLD + customer("A") + customer("B") + customer("A") + END,
     GOLD + customer("A", "5", "9", "6") + END,
     GOLD + LACKING + END,
@@ -102,13 +108,15 @@ def figures():
         kind, good, bad = [cell.strip() for cell in line.strip("|").split("|")]
         make = {
             "X": lambda v: [(4, terms(x=v, s="400" if v == "0" else "400.00"))],
-            "price, X 2": lambda v: [(8, terms(s=v)), (57, GOLD + traded("B", f"{v} 1{STAMP}"))],
-            "price, X 0": lambda v: [(8, terms(x="0", s=v)), (54, YUAN + traded("A", f"{v} 1{STAMP}"))],
+            "price, X 2": lambda v: [(8, terms(s=v)), (57, near("2", v, GOLD) + traded("B", f"{v} 1{STAMP}"))],
+            "price, X 0": lambda v: [(8, terms(x="0", s=v)), (54, near("0", v, YUAN) + traded("A", f"{v} 1{STAMP}"))],
             "rate": lambda v: [(17, terms(l=v))],
             "lots": lambda v: [(45, GOLD + customer("A", v, v, "0"))],
             "day": lambda v: [(57, GOLD + traded("B", f"400.00 1 {v} 1000"))],
             "time": lambda v: [(57, GOLD + traded("A", f"400.00 1 20250115 {v}"))],
         }[kind]
+        # terms whose S a trade at a good price is not too far from
+        near = lambda x, v, otherwise: terms(x=x, s=v) if f"`{v}`" in good else otherwise
         for v in re.findall(r"`([^`]*)`", good):
             for place, book in make(v):
                 yield book + END, "total 0\nleft 0\n" + ("A N 0\n" if place > 41 else "")
@@ -118,6 +126,17 @@ def figures():
     for v in "400.00  1" + STAMP, f"400.00 1{STAMP} ", "400.00 1 20250115", "400.00 1", "400.00 0" + STAMP:
         assert f"`{v}`" in PAGE, v
         yield GOLD + traded("B", v) + END, "refused 5 at 57\n"
+
+
+def bounds():
+    """Section 6: prices at five times S and at a fifth of it, and beyond; bought and sold, of a customer without a position."""
+    for x, s, good, far in rows("6. Refusal numbers", 2):
+        terms_of = terms(x=x.strip("`"), s=s.strip("`"))
+        for tag in "BA":
+            for v in re.findall(r"`([^`]*)`", good):
+                yield terms_of + traded(tag, f"{v} 1{STAMP}") + END, "total 0\nleft 0\nA N 0\n"
+            for v in re.findall(r"`([^`]*)`", far):
+                yield terms_of + traded(tag, f"{v} 1{STAMP}") + END, f"refused 12 at {len(terms_of) + 16}\n"
 
 
 def standings():
@@ -180,7 +199,7 @@ def refusals():
 
 
 passed = failed = 0
-for part in refusals, figures, orders, standings, divisions, whole_book:
+for part in refusals, figures, bounds, orders, standings, divisions, whole_book:
     for book, wanted in part():
         run = subprocess.run(sys.argv[1:], input=book, capture_output=True)
         # status 1 is the program's for a refused book, and 0 the second program's

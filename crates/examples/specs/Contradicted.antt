@@ -1,5 +1,5 @@
--- Wrong answers to document 01's listing, and to books whose prices have other decimals than X says: the contract of `frundavel_allot` allows none
--- of them. Computed.
+-- Wrong answers to document 01's listing, to books whose prices have other decimals than X says, and to books with a price too far from S: the
+-- contract of `frundavel_allot` allows none of them. Computed.
 -- Assumes nothing.
 use Prim.Native.Nat.{ℕ, _-_}
 use Prim.Native.String.{String}
@@ -25,7 +25,7 @@ use Rattle.rules.specs.Cascade.{lineOf, quantity, after, cascade, outcome}
 use Rattle.rules.specs.Report.{field, digits, reported, report, listing}
 use Rattle.rules.specs.Answer.{answer}
 use Rattle.cases.specs.Case.{Holds, so}
-use Rattle.cases.specs.Tables.{termsWith, gold, bought, customer, book}
+use Rattle.cases.specs.Tables.{termsWith, gold, bought, sold, customer, book}
 use Rattle.cases.specs.Cases.{theListing}
 use Rattle.writing.specs.Written.{written-front}
 use Rattle.allotment.specs.declared.Listing.{Listing}
@@ -74,6 +74,14 @@ neither = field "T" (bytes "0") ++ field "R" (bytes "0") ++ line "A" "N" "0"
 abbrev takes : String → List ℕ → Tried
 takes name s = tried name s (room 40) 0 0 (length neither) (neither ++ drop (length neither) (room 40))
 
+-- a customer with one lot bought at S, before or behind a trade too far from it
+abbrev beside : List ℕ → List ℕ → List ℕ
+beside first second = book gold (customer "A" "1" "0" "0" (first ∷ second ∷ []) ∷ [])
+
+-- refused with 12 at its first trade
+abbrev far : String → List ℕ → Tried
+far name s = tried name s (room 40) 12 (length (gold ++ idle)) 0 (room 40)
+
 -- prices with so many decimals, and S so written
 abbrev priced : String → String → List ℕ
 priced x s = termsWith "D" x s "8.000" "8.000" "4.000"
@@ -86,6 +94,14 @@ right-allowed = so
 pub yuan-allowed : Holds "prices in yuan" (allowed (takes "prices in yuan" (one (priced "0" "400") "440 1")))
 unfolding answer writtenOf figureOf openingOf stampOf isCode fieldsOf within step judge gainFrom totalGain standing leftOver rank shareOf share lineOf quantity after cascade outcome digits reported report
 yuan-allowed = so
+
+pub bound-allowed : Holds "five times S" (allowed (takes "five times S" (one gold "2000.00 1")))
+unfolding answer writtenOf figureOf openingOf stampOf isCode fieldsOf within step judge gainFrom totalGain standing leftOver rank shareOf share lineOf quantity after cascade outcome digits reported report
+bound-allowed = so
+
+pub far-allowed : Holds "above five times S" (allowed (far "above five times S" (one gold "2000.01 1")))
+unfolding answer writtenOf figureOf openingOf stampOf isCode fieldsOf within step judge gainFrom totalGain standing leftOver rank shareOf share lineOf quantity after cascade outcome digits reported report
+far-allowed = so
 
 abbrev pub wrong : List Tried
 wrong =
@@ -114,13 +130,22 @@ wrong =
     ∷ takes "S has two decimals, whatever X says" (one (priced "0" "400.00") "440 1")
     ∷ takes "X 1 is taken" (one (priced "1" "400.0") "440.0 1")
     ∷ takes "a leading zero is taken where X is 0" (one (priced "0" "400") "0440 1")
+    ∷ far "five times S itself is refused" (one gold "2000.00 1")
+    ∷ far "a fifth of S itself is refused" (one gold "80.00 1")
+    ∷ takes "six times S is taken" (one gold "2400.00 1")
+    ∷ takes "a sixth of S is taken" (one gold "66.67 1")
+    ∷ takes "a trade that does not count is not judged" (beside (bought "40000.00 1") (bought "400.00 1"))
+    ∷ takes "a trade on the other side is not judged" (beside (bought "400.00 1") (sold "40000.00 1"))
+    ∷ far "12 before 5: the price of a trade of 0 lots" (one gold "40000.00 0")
+    ∷ far "12 before 5: a price without its decimals" (one gold "4000000 1")
+    ∷ far "12 before 4: a comma in the lots" (one gold "40000.00 1,0")
     ∷ []
 
 pub contradicted : Contradicted wrong
 unfolding answer writtenOf figureOf openingOf stampOf isCode fieldsOf within step judge gainFrom totalGain standing leftOver rank shareOf share lineOf quantity after cascade outcome digits reported report
 contradicted = none-given wrong (
     so & so & so & so & so & so & so & so & so & so & so & so & so & so & so & so & so & so & so & so
-    & so & so & so & so & so & done)
+    & so & so & so & so & so & so & so & so & so & so & so & so & so & so & done)
 
 -- What the program's `list` leaves at the front of the buffer, as many bytes as it says, is the listing: a refused book is not listed as one
 -- without customers.

@@ -2,7 +2,7 @@
 -- the trade that the value writes. A trade is judged for its comma as a whole, so neither of its parts is.
 -- Assumes nothing.
 use Prim.Native.Nat.{ℕ}
-use mathlib.Core.Path.{_≡_, refl}
+use mathlib.Core.Path.{_≡_, refl, ap, _∙_}
 use mathlib.Core.Bool.{Bool, true, false, cond, not, _&&_, _||_, true≢false}
 use mathlib.Core.List.{List, [], _∷_}
 use lib.ListN.{length}
@@ -136,3 +136,12 @@ module _ {A : Type 0} where
   pub last-chain : (m n : ℕ) (good b : Bool) (next : Step A) → refuse m (not good) (refuse n b next) ≡ refuse m (not good) (refuse n (good && b) next)
   last-chain m n true b next = refl
   last-chain m n false b next = refl
+
+  -- a trade that is judged by its price
+  pub judged-chain :
+      (x : ℕ) (bought : Bool) (v : List ℕ) (far : Trade → Bool) (next : Trade → Step A) → let t = tradeRead bought v in
+      trade x (openingOf bought v) (λ u. refuse refusal.astray (far u) (next u))
+      ≡ refuse refusal.comma (has "," v) (refuse refusal.malformed (not (isTrade x v)) (refuse refusal.astray (isTrade x v && far t) (next t)))
+  judged-chain x bought v far next =
+      trade-chain x bought v (λ u. refuse refusal.astray (far u) (next u))
+      ∙ ap (refuse refusal.comma (has "," v)) (last-chain refusal.malformed refusal.astray (isTrade x v) _ _)

@@ -1,10 +1,13 @@
 -- A room that is enough: no report is longer than `FRUNDAVEL_ROOM` of include/frundavel.h, so that a call with such a buffer never answers 11. An accepted
 -- book has at most 256 customers (`report-length` counts the bytes of each); and 11 is given for the room alone, since no rule of the book has that number.
 -- Assumes nothing.
-use Prim.Native.Nat.{ℕ, _+_, _*_, _≤_, _<_, max}
-use mathlib.Core.Path.{_≡_, refl}
+use Prim.Native.Nat.{ℕ, _+_, _*_, _≤_, _<_}
+use mathlib.Core.Path.{_≡_, refl, ap}
+use mathlib.Core.Bool.{cond}
 use mathlib.Core.List.{List, [], _∷_}
 use lib.ListN.{length}
+use lib.Dec.{eqb}
+use borrow.Author.Tests.{eq-eqb}
 use native.Mathlib.Omega.{arith}
 use Rattle.rules.specs.declared.Terms.{Terms}
 use Rattle.rules.specs.Refusal as refusal
@@ -31,26 +34,26 @@ in-figures = refl
 pub report-fits : (s : List ℕ) (terms : Terms) (cs : List Customer) → judge s ≡ Accepted terms cs → length (report (outcome terms cs)) ≤ reportRoom
 report-fits s terms cs e = omega (arith, report-length s terms cs e, accepted-sane s terms cs e .few)
 
--- the greatest number of a rule: 10, of those in order
-abbrev greatest : List Rule → ℕ
-greatest [] = 0
-greatest (r ∷ rs) = max (r .number) (greatest rs)
+-- how many rules have a number: none of those in order has 11
+abbrev having : ℕ → List Rule → ℕ
+having n [] = 0
+having n (r ∷ rs) = cond (eqb (r .number) n) 1 0 + having n rs
 
-first-at-most : {due : Due} {t n : ℕ} {v : List ℕ} (rs : List Rule) → FirstOf due t v rs n → n ≤ greatest rs
-first-at-most (r ∷ rs) (here h) = omega arith
-first-at-most (r ∷ rs) (after h f) = omega (arith, first-at-most rs f)
+first-has : {due : Due} {t n : ℕ} {v : List ℕ} (rs : List Rule) → FirstOf due t v rs n → 0 < having n rs
+first-has (r ∷ rs) (here h) = rw (eq-eqb (r .number) (r .number) refl) (omega arith)
+first-has (r ∷ rs) (after h f) = omega (arith, first-has rs f)
 
 module _ (s : List ℕ) where
-  given-below : {n place : ℕ} → Given s n place → n < refusal.noRoom
-  given-below (too-long h) = omega arith
-  given-below (cut-short r h) = omega arith
-  given-below (after-end r h) = omega arith
-  given-below (broken r h f) = omega (arith, first-at-most inOrder f)
+  given-other : {n place : ℕ} → Given s n place → n ≡ refusal.noRoom → ⊥
+  given-other (too-long h) e = omega arith
+  given-other (cut-short r h) e = omega arith
+  given-other (after-end r h) e = omega arith
+  given-other (broken {n = n} r h f) e = let none : having n inOrder ≡ 0 = ap (λ (m : ℕ). having m inOrder) e in omega (arith, first-has inOrder f, none)
 
-  why-below : {room n place : ℕ} → reportRoom ≤ room → Why s room n place → n < refusal.noRoom
-  why-below enough (by-the-book g) = given-below g
-  why-below enough (no-room {terms = terms} {cs = cs} b h) = absurd (omega (arith, report-fits s terms cs (accepted-exactly s terms cs .1 b)))
+  why-other : {room n place : ℕ} → reportRoom ≤ room → Why s room n place → n ≡ refusal.noRoom → ⊥
+  why-other enough (by-the-book g) e = given-other g e
+  why-other enough (no-room {terms = terms} {cs = cs} b h) e = omega (arith, report-fits s terms cs (accepted-exactly s terms cs .1 b))
 
 -- whatever the book, and whatever stood in the buffer
 pub room-enough : (c : Call) → reportRoom ≤ length (lentTo c) → c .answer .number ≡ refusal.noRoom → ⊥
-room-enough c enough e = omega (arith, why-below (bookOf c) enough (demand-1 c (omega arith) .why))
+room-enough c enough e = why-other (bookOf c) enough (demand-1 c (omega arith) .why) e

@@ -18,9 +18,9 @@ use Rattle.rules.specs.Figures.{priceForm, rateForm, heldForm, has}
 use Rattle.rules.specs.Book.{Customer, uncovered, astray, Step, Next, refuse, Stage, Reading, Ended, goesOn, ends, step}
 use Rattle.rules.specs.Book.{Group, Nobody, Open, DueK, DueH, DueQ, DueTrade, within, traded}
 use Rattle.rules.specs.Book.{Due, AtTerm, InGroup, Term, DueD, DueX, DueS, DueL, DueU, DueV, locked, withDecimals}
-use Rattle.promises.specs.Reasons.{isFigure, isTrade, Rule, inOrder}
+use Rattle.promises.specs.Reasons.{isFigure, Rule, inOrder}
 use Rattle.promises.specs.Given.{withPart, leads}
-use Rattle.promises.specs.Chains.{figure-chain, lock-chain, places-chain, trade-chain, last-chain}
+use Rattle.promises.specs.Chains.{figure-chain, lock-chain, places-chain, last-chain, judged-chain}
 
 module _ {A : Type 0} where
   -- the rules of a list, asked one after another
@@ -73,10 +73,10 @@ module _ (terms : Terms) (cs : List Customer) where
       (figure-chain heldForm v _ ∙ ap (refuse refusal.comma (has "," v)) (last-chain refusal.malformed refusal.overdrawn (isFigure heldForm v) _ _))
       (λ k. rw k refl)
   asked-within (Open DueTrade c) t v e f =
-      let next : Trade → Step Group = λ x. refuse refusal.astray (astray (terms .settlement) (x .price)) (Next (Open DueTrade (traded c x))) in
-      let last = ap (refuse refusal.comma (has "," v)) (last-chain refusal.malformed refusal.astray (isTrade (terms .decimals) v) _ _) in
-      by-tag "B" t (λ x. Within (Open DueTrade c) x v) (trade-chain (terms .decimals) true v next ∙ last) (λ k.
-      by-tag "A" t (λ x. Within (Open DueTrade c) x v) (trade-chain (terms .decimals) false v next ∙ last) (λ l.
+      let far : Trade → Bool = λ x. astray (terms .settlement) (x .price) in
+      let next : Trade → Step Group = λ x. Next (Open DueTrade (traded c x)) in
+      by-tag "B" t (λ x. Within (Open DueTrade c) x v) (judged-chain (terms .decimals) true v far next) (λ k.
+      by-tag "A" t (λ x. Within (Open DueTrade c) x v) (judged-chain (terms .decimals) false v far next) (λ l.
       rw (e, f, k, l) refl))
 
   goes-asked : (due : Due) (t : ℕ) (v : List ℕ) (rs : List Rule) (g : Group) → goesOn terms cs (asked due t v rs (Next g)) ≡ asked due t v rs (Next (Reading (InGroup terms cs g)))
