@@ -98,19 +98,36 @@ def silver_edges():
 AT_EDGES = "total 10\nleft 0\nP1 P 10\nP2 N 0\nW1 1 3\nW2 2 2\nW3 2 2\nW4 3 3\nW5 3 0\nW6 N 0\n"
 
 
+def price_bounds():
+    """S 8001: five times are 40005 yuan, and a fifth 1600.2, so that 1601 is the least price. Prices at both bounds on either side."""
+    return (
+        silver_terms(s="8001")
+        + customer("P1", "3", "0", "3", ("B", "40005 3" + STAMP), ("A", "1601 1" + STAMP))
+        + customer("W1", "0", "2", "0", ("A", "40005 2" + STAMP), ("B", "40005 1" + STAMP))
+        + customer("N1", "4", "0", "4", ("B", "1601 4" + STAMP))
+        + customer("N2", "0", "0", "0", ("B", "1601 1" + STAMP), ("A", "40005 1" + STAMP))
+        + END
+    )
+
+
+# P1 has lost 400 percent and W1 has gained as much; N1 is on the locked side with a gain, and N2 holds nothing.
+AT_BOUNDS = "total 2\nleft 1\nP1 P 2\nW1 1 2\nN1 N 0\nN2 N 0\n"
+
+
 def crowd(n):
     """n customers without a position, of 19 bytes each."""
     return b"".join(customer(f"{1000 + i}", "0", "0", "0") for i in range(n))
 
 
 def sized(size):
-    """A sound book of exactly so many bytes: one customer without a position, trades of 23 bytes, the last three of them longer."""
-    head = terms() + customer("A", "0", "0", "0")
+    """A sound book of exactly so many bytes: one customer without a position, trades of 23 bytes, the last five of them longer. S is
+    1.00, so that a price as short as can be is not far from it."""
+    head = terms(s="1.00") + customer("A", "0", "0", "0")
     left = size - len(head) - len(END)
-    count, more = left // 23, left % 23  # more bytes than trades of 23 take: up to 22, and up to 8 in each of the last three
-    longer = [min(8, max(0, more - 8 * i)) for i in range(3)]
-    last = [field("B", f"{'1' * min(5, 1 + n)}.00 {'1' * (1 + max(0, n - 4))}{STAMP}") for n in longer]
-    book = head + field("B", "1.00 1" + STAMP) * (count - 3) + b"".join(last) + END
+    count, more = left // 23, left % 23  # more bytes than trades of 23 take: up to 22, and up to 5 in each of the last five
+    longer = [min(5, max(0, more - 5 * i)) for i in range(5)]
+    last = [field("B", f"1.00 {'1' * (1 + n)}{STAMP}") for n in longer]
+    book = head + field("B", "1.00 1" + STAMP) * (count - 5) + b"".join(last) + END
     assert len(book) == size
     return book
 
@@ -218,6 +235,7 @@ BOOKS = {
         BY_TIME,
     ),
     "silver-edges": (silver_edges(), AT_EDGES),
+    "price-bounds": (price_bounds(), AT_BOUNDS),
 }
 # the book, its number and place, and the words for them
 REFUSED = {
@@ -257,6 +275,11 @@ REFUSED = {
         "this customer's opening trades on its net side sum to less than its net position",
     ),
     "10-customers": (terms() + crowd(257) + END, "10 at 4905", "more than 256 customers"),
+    "12-lost-point": (
+        terms() + customer("A", "5", "0", "5", ("B", "40000.00 5" + STAMP)) + END,
+        "12 at 57",
+        "this trade's price is above five times the settlement price S or below a fifth of it",
+    ),
 }
 
 

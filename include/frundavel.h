@@ -20,9 +20,9 @@ extern "C" {
 #endif
 
 /* The version. CHANGELOG.md of the source tree says what changed with each. */
-#define FRUNDAVEL_VERSION "0.5.0"
+#define FRUNDAVEL_VERSION "0.6.0"
 #define FRUNDAVEL_VERSION_MAJOR 0
-#define FRUNDAVEL_VERSION_MINOR 5
+#define FRUNDAVEL_VERSION_MINOR 6
 #define FRUNDAVEL_VERSION_PATCH 0
 
 /* A book has at most so many bytes; a longer one is refused with number 1. Reading one byte more than this is enough to see it. */
@@ -61,7 +61,8 @@ enum frundavel_number {
     FRUNDAVEL_OVERDRAWN = 8,
     FRUNDAVEL_UNCOVERED = 9,
     FRUNDAVEL_TOO_MANY = 10,
-    FRUNDAVEL_NO_ROOM = 11
+    FRUNDAVEL_NO_ROOM = 11,
+    FRUNDAVEL_ASTRAY = 12
 };
 
 /*
@@ -87,6 +88,9 @@ enum frundavel_number {
  *       10  a C after 256 customers                                         that C tag
  *       11  the report is longer than the room; of frundavel_columns,       the length needed, or the number of places: no place in
  *           a run has fewer places than there are customers                 the book
+ *       12  the price of a trade is above five times S or below a fifth     the trade's tag
+ *           of it; every trade is judged, also one that does not count.
+ *           At one field 4 and 5 come first
  */
 typedef struct frundavel_answer {
     uint64_t number;

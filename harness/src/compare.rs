@@ -80,7 +80,7 @@ impl Check {
 pub struct Counts {
     pub books: u64,
     /// Books by the number answered in a large room; at 11 the calls that were answered so.
-    pub numbers: [u64; 12],
+    pub numbers: [u64; 13],
     pub rooms: u64,
     /// How often each check was made.
     pub checks: [u64; Check::ALL.len()],

@@ -1,12 +1,24 @@
 //! Books made plain: every customer holds a few lots on one side, by its newest trade there alone or by trades of as many lots
 //! each. Ties and tiers often outlive this, where lots taken from one customer alone would end them; with all its trades,
-//! so does a wrong order of them.
+//! so does a wrong order of them. Or customers hold nothing, so that their trades can go one by one. Where that ends what is
+//! looked for, one customer alone is made plain.
+
+use std::ops::Range;
 
 use crate::fields::{fields, groups, value};
 use crate::trades::{stamp, words};
 
 /// The lots that a customer of a plain book holds: few, or two digits, which change a report's length.
 const LOTS: [u32; 4] = [1, 2, 3, 10];
+
+/// What is made of a customer.
+#[derive(Clone, Copy)]
+enum Way {
+    /// So many lots, held long or short.
+    Holds([u32; 2], Kept),
+    /// Nothing, with all its trades.
+    Flat,
+}
 
 /// Which trades of the net side a plain customer keeps.
 #[derive(Clone, Copy)]
@@ -15,38 +27,41 @@ enum Kept {
     All,
 }
 
-/// The book with so many lots for each long customer and so many for each short one, for every pair of a few lots.
-pub fn plain_books(book: &[u8]) -> Vec<Vec<u8>> {
-    let mut books = Vec::new();
+/// Every way: a pair of a few lots, with one trade or all, and none.
+fn ways() -> Vec<Way> {
+    let mut ways = Vec::new();
     for kept in [Kept::Newest, Kept::All] {
         let pairs = LOTS
             .iter()
             .flat_map(|&long| LOTS.map(|short| [long, short]));
-        books.extend(pairs.filter_map(|lots| plain(book, lots, kept)));
+        ways.extend(pairs.map(|lots| Way::Holds(lots, kept)));
     }
-    books
+    ways.push(Way::Flat);
+    ways
 }
 
-fn plain(book: &[u8], lots: [u32; 2], kept: Kept) -> Option<Vec<u8>> {
+/// The book with all its customers made plain in every way, then with each one of them alone.
+pub fn plain_books(book: &[u8]) -> impl Iterator<Item = Vec<u8>> + '_ {
     let groups = groups(book);
-    let (first, last) = (groups.first()?, groups.last()?);
+    let count = groups.len();
+    let whom = std::iter::once(0..count).chain((0..count).map(|who| who..who + 1));
+    let tries = whom.flat_map(|whom| ways().into_iter().map(move |way| (whom.clone(), way)));
+    tries.filter_map(move |(whom, way)| plain(book, &groups, whom, way))
+}
+
+fn plain(book: &[u8], groups: &[Range<usize>], whom: Range<usize>, way: Way) -> Option<Vec<u8>> {
+    let (first, last) = (groups.get(whom.start)?, groups.get(whom.end - 1)?);
     let locked_long = book.get(3) == Some(&b'D');
     let mut bytes = book[..first.start].to_vec();
-    for group in &groups {
-        let group = &book[group.clone()];
-        bytes.extend(plain_group(group, locked_long, lots, kept)?);
+    for group in &groups[whom] {
+        bytes.extend(plain_group(&book[group.clone()], locked_long, way)?);
     }
     bytes.extend_from_slice(&book[last.end..]);
     Some(bytes)
 }
 
-/// One customer: its code, lots on the side of its net position, and trades there with as many lots.
-fn plain_group(
-    group: &[u8],
-    locked_long: bool,
-    [long, short]: [u32; 2],
-    kept: Kept,
-) -> Option<Vec<u8>> {
+/// One customer: its code, lots on the side of its net position, and trades there with as many lots; or no lots, and all trades.
+fn plain_group(group: &[u8], locked_long: bool, way: Way) -> Option<Vec<u8>> {
     let values: Vec<(u8, &[u8])> = (fields(group).iter())
         .map(|field| (group[field.start], &group[value(field)]))
         .collect();
@@ -56,7 +71,11 @@ fn plain_group(
         return None;
     };
     let is_long = lots(held_long)? > lots(held_short)?;
-    let (tag, held) = if is_long { (b'B', long) } else { (b'A', short) };
+    let held = match way {
+        Way::Holds([long, _], _) if is_long => long,
+        Way::Holds([_, short], _) => short,
+        Way::Flat => 0,
+    };
     let pending = is_long == locked_long && *unfilled != b"0";
     let figure = |given: bool| if given { held } else { 0 }.to_string().into_bytes();
     let mut plain = vec![
@@ -65,10 +84,16 @@ fn plain_group(
         (b'H', figure(!is_long)),
         (b'Q', figure(pending)),
     ];
-    let side = trades.iter().filter(|(side, _)| *side == tag);
-    for trade in kept.of(side.map(|(_, trade)| *trade).collect())? {
-        let [price, _, day, time] = words(trade)?;
-        plain.push((tag, [price, &figure(true), day, time].join(&b' ')));
+    match way {
+        Way::Holds(_, kept) => {
+            let tag = if is_long { b'B' } else { b'A' };
+            let side = trades.iter().filter(|(side, _)| *side == tag);
+            for trade in kept.of(side.map(|(_, trade)| *trade).collect())? {
+                let [price, _, day, time] = words(trade)?;
+                plain.push((tag, [price, &figure(true), day, time].join(&b' ')));
+            }
+        }
+        Way::Flat => plain.extend(trades.iter().map(|(tag, trade)| (*tag, trade.to_vec()))),
     }
     Some(plain.into_iter().flat_map(written).collect())
 }

@@ -65,11 +65,12 @@ fn without_runs(
     }
 }
 
-/// Makes all customers plain at once, where that is shorter.
+/// Makes all customers plain at once, or one of them, where that is shorter.
 fn made_plain(small: &mut Vec<u8>, stays: &mut dyn FnMut(&[u8]) -> bool) {
-    let shorter = |book: &Vec<u8>| book.len() < small.len();
-    let mut plain = plain_books(small).into_iter().filter(shorter);
-    if let Some(book) = plain.find(|book| stays(book)) {
+    let found = plain_books(small)
+        .filter(|book| book.len() < small.len())
+        .find(|book| stays(book));
+    if let Some(book) = found {
         *small = book;
     }
 }

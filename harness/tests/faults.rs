@@ -5,9 +5,11 @@ mod common;
 use std::path::Path;
 
 use common::{
-    answered_with, decimals_not_compared, leading_zeros_taken, right, right_view, s_always_in_fen,
+    a_fifth_rounded_down, answered_with, bounds_refused, decimals_not_compared,
+    leading_zeros_taken, net_side_judged_alone, right, right_view, s_always_in_fen, six_times_s,
     ties_by_row_order, ties_by_the_earlier_place, trades_by_clock, trades_by_minute,
-    trades_by_place, trades_from_20_00, values, with_values, x_after_s, x_of_1_taken,
+    trades_by_place, trades_from_20_00, twelve_before_five, values, with_values, x_after_s,
+    x_of_1_taken,
 };
 use harness::compare::{Check, Counts, Difference};
 use harness::fields::{fields, groups, value};
@@ -78,9 +80,9 @@ fn the_right_program_has_no_difference_and_meets_every_check() {
 
 #[test]
 fn ties_by_row_order_are_found() {
-    let (small, difference) = found(ties_by_row_order, Check::Buffer, 192);
-    // Two that tie and one to be offset against.
-    assert_eq!(groups(&small).len(), 3);
+    let (small, difference) = found(ties_by_row_order, Check::Buffer, 256);
+    // Two or three that tie, and one or two to be offset against.
+    assert!(matches!(groups(&small).len(), 3..=5));
     assert_eq!(difference.call.got.map(|got| got.number), Some(0));
 }
 
@@ -127,6 +129,24 @@ fn wrong_readings_of_decimals_are_found() {
         assert_eq!(difference.call.want.number, 5);
     }
     found(x_after_s, Check::Answer, 12);
+}
+
+/// Wrong bounds of a trade's price: what is right in their place, and that one customer shows it. A book that is accepted is first
+/// seen in no room, where it is 11.
+#[test]
+fn wrong_bounds_of_prices_are_found() {
+    let wrong: [(Call, u64); 5] = [
+        (bounds_refused, 11),
+        (six_times_s, 12),
+        (a_fifth_rounded_down, 12),
+        (net_side_judged_alone, 12),
+        (twelve_before_five, 5),
+    ];
+    for (call, number) in wrong {
+        let (small, difference) = found(call, Check::Answer, 88);
+        assert_eq!(difference.call.want.number, number);
+        assert_eq!(groups(&small).len(), 1);
+    }
 }
 
 #[test]
@@ -280,7 +300,7 @@ fn offsets_in_place_of_pending_are_found() {
         pending[..count].copy_from_slice(&offsets[..count]);
         answer
     }
-    let (small, difference) = found_view(wrong, Check::Runs, 84);
+    let (small, difference) = found_view(wrong, Check::Runs, 86);
     assert_eq!(groups(&small).len(), 1, "one pending customer shows it");
     assert!(difference.told.contains("pending, first difference at 0"));
 }
@@ -336,7 +356,7 @@ fn a_run_whose_places_are_not_counted_is_found() {
         }
         answer
     }
-    let (_, difference) = found_view(wrong, Check::Columns, 84);
+    let (_, difference) = found_view(wrong, Check::Columns, 86);
     assert_eq!(difference.call.want.number, 11);
 }
 

@@ -14,7 +14,7 @@ OF_FIELDS, OTHERS = [
     {cells[0]: cells[1:] for line in table.strip().split("\n")[2:] for cells in [[c.strip() for c in line.strip("|").split("|")]]}
     for table in re.findall(r"(?:^\|.*\n)+", SECTION, re.M)
 ]
-assert len(FIELD_OF) == 13 and {*OF_FIELDS, *OTHERS} == {*map(str, range(12)), "all others"}
+assert len(FIELD_OF) == 13 and {*OF_FIELDS, *OTHERS} == {*map(str, range(13)), "all others"}
 
 
 def words(number, byte):

@@ -164,6 +164,10 @@ impl<'a> Reader<'a> {
                 _ => return Err(field.refuse(Rule::WrongTag)),
             };
             let trade = figures::trade(&field, self.terms.decimals)?;
+            // Request [4]: 12, "after 4 and 5 for that field", whoever's trade it is and whether it counts or not.
+            if !self.terms.is_near(trade.price) {
+                return Err(field.refuse(Rule::PriceFar));
+            }
             if net_side == Some(side) {
                 self.trades.push(trade);
             }

@@ -14,6 +14,7 @@ pub enum Rule {
     TradesShort = 9,
     TooManyCustomers = 10,
     NoRoom = 11,
+    PriceFar = 12,
 }
 
 /// A refusal: the first rule broken and its place. The place is an offset in the

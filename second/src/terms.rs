@@ -31,6 +31,13 @@ impl Terms {
             Side::Short => short,
         }
     }
+
+    /// Request [4]: a trade's price is neither "above five times S" nor "below a fifth of S", both ends allowed. The
+    /// least price is the fifth rounded up, since a price is a whole number of its unit.
+    pub fn is_near(&self, price: Price) -> bool {
+        let Price(settlement) = self.settlement;
+        (settlement.div_ceil(5)..=5 * settlement).contains(&price.0)
+    }
 }
 
 /// Reads the terms. Every later test may rely on U being greater than V.

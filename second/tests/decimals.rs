@@ -43,9 +43,8 @@ fn in_s(x: &str, price: &str) -> String {
     listed(&format!("DD;X{x};S{price};L8.000;U8.000;V4.000;Z"))
 }
 
-/// The answer to a trade's price in a book with this X, on the net side, on the other and without a net position.
-fn in_trades(x: &str, price: &str) -> [String; 3] {
-    let s = if x == "2" { "400.00" } else { "400" };
+/// The answer to a trade's price in a book with this X and S, on the net side, on the other and without a net position.
+fn in_trades(x: &str, s: &str, price: &str) -> [String; 3] {
     let terms = format!("DD;X{x};S{s};L8.000;U8.000;V4.000;");
     [
         format!("CA;K1;H0;Q0;B{price} 1@;Z"),
@@ -55,18 +54,19 @@ fn in_trades(x: &str, price: &str) -> [String; 3] {
     .map(|group| listed(&format!("{terms}{group}")))
 }
 
-/// Where the first trade stands: behind S and the customer's four fields.
-fn first_trade(x: &str) -> usize {
+/// An S with this X, and where the first trade then stands: behind S and the customer's four fields.
+fn first_trade(x: &str) -> (&'static str, usize) {
     if x == "2" {
-        57
+        ("400.00", 57)
     } else {
-        54
+        ("400", 54)
     }
 }
 
 fn accepts(x: &str, price: &str) {
     assert_eq!(in_s(x, price), "total 0\nleft 0\n", "X {x}, S {price}");
-    for listing in in_trades(x, price) {
+    // S is the same price, so that the trade's is not far from it.
+    for listing in in_trades(x, price, price) {
         let line = listing.lines().nth(2).expect("a customer");
         assert_eq!(line, "A N 0", "X {x}, price {price}");
     }
@@ -75,8 +75,9 @@ fn accepts(x: &str, price: &str) {
 fn refuses(x: &str, price: &str, number: u32) {
     let at = |place: usize| format!("refused {number} at {place}\n");
     assert_eq!(in_s(x, price), at(8), "X {x}, S {price}");
-    for listing in in_trades(x, price) {
-        assert_eq!(listing, at(first_trade(x)), "X {x}, price {price}");
+    let (s, place) = first_trade(x);
+    for listing in in_trades(x, s, price) {
+        assert_eq!(listing, at(place), "X {x}, price {price}");
     }
 }
 
@@ -125,8 +126,8 @@ fn every_price_of_a_book_has_the_decimals_of_x() {
     // The second trade, or a later customer's, has others.
     let mixed = format!("{SILVER}CA;K1;H0;Q0;B8000 1@;B8000.00 1@;Z");
     assert_eq!(listed(&mixed), "refused 5 at 80\n");
-    let later = format!("{SILVER}CA;K0;H0;Q0;A1 1@;CB;K0;H0;Q0;B400.00 1@;Z");
-    assert_eq!(listed(&later), "refused 5 at 93\n");
+    let later = format!("{SILVER}CA;K0;H0;Q0;A8000 1@;CB;K0;H0;Q0;B400.00 1@;Z");
+    assert_eq!(listed(&later), "refused 5 at 96\n");
     let gold = format!("{GOLD}CA;K1;H0;Q0;B400.00 1@;B400 1@;Z");
     assert_eq!(listed(&gold), "refused 5 at 82\n");
     // S is judged before the trades, and X before S.
@@ -294,18 +295,19 @@ fn in_the_other_unit(book: &[u8]) -> Vec<u8> {
 /// The largest prices and positions: exact, as with two decimals.
 #[test]
 fn the_largest_gain_in_yuan_is_exact() {
-    let text = "DU;X0;S5000000;L99.999;U99.999;V99.998;\
-                CA;K1000000;H0;Q0;B50 1000000@;CB;K1000000;H0;Q0;B51 1000000@;\
-                CC;K1000000;H0;Q0;B101 1000000@;CD;K0;H1000000;Q1000000;A50 1000000@;\
-                CE;K0;H1000000;Q1000000;A1 1000000@;Z";
+    // S x 99.999 percent is 4,999,950, and x 99.998 percent is 4,999,900.
+    let text = "DD;X0;S5000000;L99.999;U99.999;V99.998;\
+                CA;K0;H1000000;Q0;A9999950 1000000@;CB;K0;H1000000;Q0;A9999949 1000000@;\
+                CC;K0;H1000000;Q0;A9999899 1000000@;CD;K1000000;H0;Q1000000;B9999950 1000000@;\
+                CE;K1000000;H0;Q1000000;B9999999 1000000@;Z";
     let want = "total 2000000\nleft 0\nA 1 1000000\nB 2 1000000\nC 3 0\nD P 1000000\nE P 1000000\n";
     assert_eq!(listed(text), want);
     let most = "DD;X0;S9999999;L99.999;U99.999;V0.001;\
-                CA;K1000000;H0;Q0;B1 1000000@;CB;K0;H1000000;Q0;A9999999 1000000@;\
+                CA;K1000000;H0;Q0;B2000000 1000000@;CB;K0;H1000000;Q0;A9999999 1000000@;\
                 CC;K1000000;H0;Q1000000;B9999999 1000000@;Z";
     assert_eq!(listed(most), "total 0\nleft 0\nA N 0\nB N 0\nC N 0\n");
     let least = "DD;X0;S1;L99.999;U99.999;V0.001;\
-                 CA;K1000000;H0;Q1000000;B9999999 1000000@;CB;K0;H1000000;Q0;A9999999 1000000@;Z";
+                 CA;K1000000;H0;Q1000000;B5 1000000@;CB;K0;H1000000;Q0;A5 1000000@;Z";
     assert_eq!(
         listed(least),
         "total 1000000\nleft 0\nA P 1000000\nB 1 1000000\n"

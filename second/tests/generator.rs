@@ -69,9 +69,12 @@ fn every_refusal_number_is_reached() {
         "whole books are accepted"
     );
     assert!(whole > BOOKS / 4);
-    counts.at_least(500, &names("damaged number", &[0, 2, 3, 4, 5, 6, 7, 8, 9]));
+    counts.at_least(
+        500,
+        &names("damaged number", &[0, 2, 3, 4, 5, 6, 7, 8, 9, 12]),
+    );
     counts.at_least(50, &names("damaged number", &[1, 10]));
-    counts.at_least(20, &names("edge number", &[1, 10]));
+    counts.at_least(20, &names("edge number", &[1, 10, 12]));
     // Of two rules broken by one field, or by neighbours, the first was given.
     counts.at_least(300, &names("trades short, closing broken gave", &[9]));
     counts.at_least(20, &names("one customer too many gave", &[9, 10]));
@@ -89,11 +92,15 @@ fn every_refusal_number_is_reached() {
     counts.at_least(200, &names("X elsewhere gave", &[3]));
     counts.at_least(20, &names("other decimals gave", &[4, 5]));
     counts.at_least(20, &names("price replaced gave", &[0, 4, 5]));
-    let damaged = counts
+    // A price that is far from S comes before 9 and after 5.
+    counts.at_least(100, &names("price beyond gave", &[5, 12]));
+    counts.at_least(20, &names("point moved gave", &[0, 5, 12]));
+    counts.at_least(50, &names("price about a bound gave", &[0, 12]));
+    let numbers = counts
         .seen
         .keys()
         .filter(|key| key.starts_with("edge number"));
-    assert_eq!(damaged.count(), 3, "edge books give 0, 1 and 10 only");
+    assert_eq!(numbers.count(), 4, "edge books give 0, 1, 10 and 12 only");
 }
 
 #[test]
@@ -205,6 +212,74 @@ fn decimals_are_damaged_in_every_field() {
         for x in ["0", "2"] {
             let prefix = format!("{kind} X {x} gave 5 at");
             counts.at_least(20, &names(&prefix, &["S", "A", "B"]));
+        }
+    }
+}
+
+/// Where a price stands by five times S and by a fifth of it: at the bound, or one fen or yuan inside or outside.
+fn by_the_bounds(price: u64, s: u64) -> Option<&'static str> {
+    let whole = s.is_multiple_of(5);
+    let least = s / 5 + u64::from(!whole);
+    match price {
+        _ if price == 5 * s => Some("five times"),
+        _ if price + 1 == 5 * s => Some("below five times"),
+        _ if price == 5 * s + 1 => Some("above five times"),
+        _ if price == least && whole => Some("a fifth"),
+        _ if price == least => Some("above a broken fifth"),
+        _ if price + 1 == least && whole => Some("below a fifth"),
+        _ if price + 1 == least => Some("below a broken fifth"),
+        _ => None,
+    }
+}
+
+/// Both bounds of a trade's price are met from either side, in fen and in yuan, whose side the trade is on.
+#[test]
+fn both_sides_of_every_bound_of_a_price_are_reached() {
+    let counts = counted(|counts, _, made| {
+        let answer = allot(&made.bytes, ROOM);
+        if !matches!(answer.number, 0 | 12) {
+            return;
+        }
+        let x = decimals(&made.bytes);
+        let number = |text: &str| text.replace('.', "").parse::<u64>().unwrap();
+        let text = |value| std::str::from_utf8(value).unwrap();
+        let (mut s, mut held, mut at) = (0, [0, 0], 0);
+        for (tag, value) in common::fields_of_front(&made.bytes) {
+            match tag {
+                b'S' => s = number(text(value)),
+                b'K' => held[0] = number(text(value)),
+                b'H' => held[1] = number(text(value)),
+                b'B' | b'A' => {
+                    let price = number(text(value).split(' ').next().unwrap());
+                    let side = match held[0].cmp(&held[1]) {
+                        std::cmp::Ordering::Equal => "no net",
+                        order if order.is_gt() == (tag == b'B') => "net side",
+                        _ => "other side",
+                    };
+                    if let Some(bound) = by_the_bounds(price, s) {
+                        counts.add(format!("X {x} {side} {bound}"));
+                    }
+                }
+                _ => (),
+            }
+            if answer.number == 12 && at == answer.place {
+                break;
+            }
+            at += 3 + value.len() as u64;
+        }
+    });
+    let bounds = [
+        "five times",
+        "below five times",
+        "above five times",
+        "a fifth",
+        "below a fifth",
+        "above a broken fifth",
+        "below a broken fifth",
+    ];
+    for x in ["0", "2"] {
+        for side in ["net side", "other side", "no net"] {
+            counts.at_least(5, &names(&format!("X {x} {side}"), &bounds));
         }
     }
 }
@@ -475,5 +550,5 @@ fn the_same_seed_makes_the_same_books() {
 fn the_first_1000_books_are_the_known_ones() {
     // A change of the generator changes this sum; change it here only on purpose, since
     // books named by seed and index elsewhere are then other books.
-    assert_eq!(checksum(1, 1_000), 14_316_795_708_090_569_937);
+    assert_eq!(checksum(1, 1_000), 16_752_270_807_711_257_033);
 }

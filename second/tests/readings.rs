@@ -132,7 +132,7 @@ fn reading_7_without_a_net_position_trades_are_judged_and_ignored() {
     let none = "total 0\nleft 0\nA N 0\n";
     assert_eq!(listed(&format!("{GOLD}CA;K5;H5;Q5;Z")), none);
     assert_eq!(
-        listed(&format!("{GOLD}CA;K5;H5;Q0;B999.00 1@;A1.00 1@;Z")),
+        listed(&format!("{GOLD}CA;K5;H5;Q0;B999.00 1@;A81.00 1@;Z")),
         none
     );
     assert_eq!(listed(&format!("{GOLD}CA;K5;H5;Q6;Z")), "refused 8 at 53\n");
@@ -245,13 +245,13 @@ fn reading_12_total_and_residue_may_have_nine_digits() {
 #[test]
 fn reading_12_the_largest_gain_at_the_largest_rates_is_exact() {
     let listing = listed(
-        "DU;X2;S50000.00;L99.999;U99.999;V99.998;\
-         CA;K1000000;H0;Q0;B0.50 1000000@;CB;K1000000;H0;Q0;B0.51 1000000@;\
-         CC;K1000000;H0;Q0;B1.01 1000000@;CD;K0;H1000000;Q1000000;A0.50 1000000@;\
-         CE;K0;H1000000;Q1000000;A0.01 1000000@;Z",
+        "DD;X2;S50000.00;L99.999;U99.999;V99.998;\
+         CA;K0;H1000000;Q0;A99999.50 1000000@;CB;K0;H1000000;Q0;A99999.49 1000000@;\
+         CC;K0;H1000000;Q0;A99998.99 1000000@;CD;K1000000;H0;Q1000000;B99999.50 1000000@;\
+         CE;K1000000;H0;Q1000000;B99999.99 1000000@;Z",
     );
     // 50000.00 x 99.999 percent is 49999.50, and x 99.998 percent is 49999.00, so A is
-    // at U, B one fen short of it, and C one fen short of V. Locked up, D and E lose.
+    // at U, B one fen short of it, and C one fen short of V. Locked down, D and E lose.
     let want = "total 2000000\nleft 0\nA 1 1000000\nB 2 1000000\nC 3 0\n\
                 D P 1000000\nE P 1000000\n";
     assert_eq!(listing, want);

@@ -234,8 +234,14 @@ fn number_5_lots() {
 
 #[test]
 fn number_5_trades() {
-    for value in ["0.01 1@", "99999.99 1000000@", "400.00 999999@"] {
+    for value in ["80.00 1@", "2000.00 1000000@", "400.00 999999@"] {
         assert!(is_accepted(&in_trade(value)), "{value}");
+    }
+    // The ends of the range, with an S that they are not far from.
+    for price in ["0.01", "99999.99"] {
+        let terms = format!("DD;X2;S{price};L8.000;U8.000;V4.000;");
+        let listing = listed(&format!("{terms}{GOOD}B{price} 1@;Z"));
+        assert!(is_accepted(&listing), "{price}");
     }
     for value in [
         "",

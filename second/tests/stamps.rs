@@ -84,7 +84,7 @@ fn of_equal_stamps_the_later_place_is_newer() {
     // Three of one minute, of which the last two count, whatever stands between them.
     let listing = listed(&format!(
         "{GOLD}CX;K0;H2;Q0;A300.00 1 20250115 1000;A432.00 1 20250115 1000;A999.00 1 20250114 1000;\
-         B1.00 1 20250115 1000;A432.00 1 20250115 1000;A999.00 1 20250115 0959;Z"
+         B81.00 1 20250115 1000;A432.00 1 20250115 1000;A999.00 1 20250115 0959;Z"
     ));
     assert_eq!(listing, "total 0\nleft 0\nX 1 0\n");
 }

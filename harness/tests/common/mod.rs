@@ -251,6 +251,118 @@ pub fn x_after_s(book: &[u8], report: &mut [u8]) -> Answer {
     right(&turned, report)
 }
 
+/// A figure without its point.
+fn number(value: &[u8]) -> Option<u64> {
+    let text = std::str::from_utf8(value).ok()?;
+    text.replace('.', "").parse().ok()
+}
+
+/// The places of trades with the price of each, and S.
+fn prices(book: &[u8]) -> Option<(u64, Vec<(usize, u64)>)> {
+    let s = number(values(book, b'S').first()?)?;
+    let trades = fields(book)
+        .into_iter()
+        .filter(|field| b"BA".contains(&book[field.start]));
+    let priced = trades.filter_map(|field| {
+        let price = book[value(&field)].split(|&byte| byte == b' ').next()?;
+        Some((field.start, number(price)?))
+    });
+    Some((s, priced.collect()))
+}
+
+/// The price of the trade that is refused at this place, and S.
+fn price_at(book: &[u8], place: u64) -> Option<(u64, u64)> {
+    let (s, trades) = prices(book)?;
+    let at = trades.iter().find(|(start, _)| *start as u64 == place)?;
+    Some((s, at.1))
+}
+
+/// A wrong program: five times S itself is refused, and a fifth of it. Shown of books that are accepted.
+pub fn bounds_refused(book: &[u8], report: &mut [u8]) -> Answer {
+    let at_bound = |(s, trades): (u64, Vec<(usize, u64)>)| {
+        let mut trades = trades.into_iter();
+        trades.find(|(_, price)| *price == 5 * s || 5 * price == s)
+    };
+    match (self::report(book), prices(book).and_then(at_bound)) {
+        (Some(_), Some((place, _))) => answer_of((12, place as u64, 0)),
+        _ => right(book, report),
+    }
+}
+
+/// Takes a price for S where the right program refuses it with 12 and `taken` says so; then the book is judged on.
+fn far_prices_taken(book: &[u8], report: &mut [u8], taken: impl Fn(&[u8], u64) -> bool) -> Answer {
+    let mut other = book.to_vec();
+    loop {
+        let answer = second::allot(&other, report.len());
+        if answer.number != 12 || !taken(&other, answer.place) {
+            return right(&other, report);
+        }
+        let s = values(&other, b'S').remove(0);
+        let start = answer.place as usize + harness::fields::HEAD;
+        let end = start
+            + other[start..]
+                .iter()
+                .position(|&b| b == b' ')
+                .expect("a trade");
+        let length = end - start;
+        // As long as it was, so that places stay: a price of as many bytes cannot always be had, and then the book is as it is.
+        if s.len() > length {
+            return right(&other, report);
+        }
+        other.splice(start..end, s.iter().copied());
+        let shorter = (length - s.len()) as u16;
+        let bytes = [other[start - 2], other[start - 1]];
+        let value = u16::from_be_bytes(bytes) - shorter;
+        other[start - 2..start].copy_from_slice(&value.to_be_bytes());
+    }
+}
+
+/// A wrong program: prices up to six times S are taken.
+pub fn six_times_s(book: &[u8], report: &mut [u8]) -> Answer {
+    far_prices_taken(book, report, |book, place| {
+        price_at(book, place).is_some_and(|(s, price)| price > 5 * s && price <= 6 * s)
+    })
+}
+
+/// A wrong program: a fifth of S is rounded down to a whole fen or yuan.
+pub fn a_fifth_rounded_down(book: &[u8], report: &mut [u8]) -> Answer {
+    far_prices_taken(book, report, |book, place| {
+        price_at(book, place).is_some_and(|(s, price)| price == s / 5)
+    })
+}
+
+/// A wrong program: prices on the other side than the net position, or without one, are not judged.
+pub fn net_side_judged_alone(book: &[u8], report: &mut [u8]) -> Answer {
+    far_prices_taken(book, report, |book, place| {
+        let at = place as usize;
+        let mut held = [b'K', b'H'].map(|tag| {
+            let before =
+                |field: &std::ops::Range<usize>| field.start < at && book[field.start] == tag;
+            let last = fields(book).into_iter().rfind(before);
+            last.and_then(|field| number(&book[value(&field)]))
+        });
+        if book[at] == b'A' {
+            held.reverse();
+        }
+        held[0] <= held[1]
+    })
+}
+
+/// A wrong program: 12 before 5, of a trade whose price is good by itself and far from S.
+pub fn twelve_before_five(book: &[u8], report: &mut [u8]) -> Answer {
+    let answer = second::allot(book, report.len());
+    let is_far = |(s, price): (u64, u64)| {
+        (1..=9_999_999).contains(&price) && (price > 5 * s || 5 * price < s)
+    };
+    let at_trade = book
+        .get(answer.place as usize)
+        .is_some_and(|tag| b"BA".contains(tag));
+    if answer.number == 5 && at_trade && price_at(book, answer.place).is_some_and(is_far) {
+        return answer_of((12, answer.place, 0));
+    }
+    right(book, report)
+}
+
 fn stamped(day: &str, clock: u32) -> String {
     format!("{day} {:02}{:02}", clock / 60, clock % 60)
 }

@@ -18,7 +18,7 @@ enum Damage {
 }
 use Damage::{Bytes, Draft as Numbers};
 
-const DAMAGES: [(u64, (&str, Damage)); 33] = [
+const DAMAGES: [(u64, (&str, Damage)); 36] = [
     (
         6,
         ("edges out of order", Numbers(drafts::edges_out_of_order)),
@@ -35,6 +35,7 @@ const DAMAGES: [(u64, (&str, Damage)); 33] = [
         ),
     ),
     (2, ("one customer too many", Numbers(drafts::one_too_many))),
+    (8, ("price beyond", Numbers(drafts::price_beyond))),
     (8, ("byte changed", Bytes(bytes::byte_changed))),
     (5, ("length changed", Bytes(bytes::length_changed))),
     (6, ("field dropped", Bytes(bytes::field_dropped))),
@@ -56,10 +57,12 @@ const DAMAGES: [(u64, (&str, Damage)); 33] = [
     (5, ("stamp misspelt", Bytes(stamped::stamp_misspelt))),
     (6, ("parts of a trade", Bytes(stamped::stamp_parts))),
     (5, ("blanks of a trade", Bytes(stamped::stamp_blanks))),
-    (6, ("X replaced", Bytes(priced::x_replaced))),
+    (8, ("X replaced", Bytes(priced::x_replaced))),
     (5, ("X elsewhere", Bytes(priced::x_elsewhere))),
     (8, ("other decimals", Bytes(priced::other_decimals))),
     (6, ("price replaced", Bytes(priced::price_replaced))),
+    (8, ("point moved", Bytes(priced::point_moved))),
+    (6, ("price about a bound", Bytes(priced::about_a_bound))),
     (
         1,
         ("past the most bytes", Bytes(bytes::past_the_most_bytes)),

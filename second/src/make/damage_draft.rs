@@ -1,6 +1,6 @@
 //! Damages to a book's numbers: the book is well written, but a rule is broken.
 
-use super::draft::{Draft, Group};
+use super::draft::{Draft, Group, MOST_LOTS};
 use super::rng::Rng;
 use super::whole;
 
@@ -71,6 +71,36 @@ pub fn one_too_many(rng: &mut Rng, draft: &mut Draft) {
         1 => malform(rng, &mut draft.groups[256].code),
         2 => take_trades(rng, &mut draft.groups[255]),
         _ => (),
+    }
+}
+
+/// A price beyond five times S or a fifth of it, on any side and counted or not: 12. Sometimes with lots that are none in the
+/// same trade (5 is first), with too few trades (9 is later) or with a code that is none in the next customer (5 is later).
+pub fn price_beyond(rng: &mut Rng, draft: &mut Draft) {
+    let with_trades: Vec<usize> = (0..draft.groups.len())
+        .filter(|&at| !draft.groups[at].trades.is_empty())
+        .collect();
+    let Some(price) = draft.terms.far_price(rng) else {
+        return;
+    };
+    if with_trades.is_empty() {
+        return;
+    }
+    let at = rng.pick(&with_trades);
+    let way = rng.below(8);
+    if way == 0 {
+        take_trades(rng, &mut draft.groups[at]);
+    }
+    let trades = &mut draft.groups[at].trades;
+    if !trades.is_empty() {
+        let place = rng.place(trades.len());
+        trades[place].price = price;
+        if way == 1 {
+            trades[place].lots = rng.pick(&[0, MOST_LOTS + 1]);
+        }
+    }
+    if let (2, Some(next)) = (way, draft.groups.get_mut(at + 1)) {
+        malform(rng, &mut next.code);
     }
 }
 

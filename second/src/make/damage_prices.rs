@@ -1,5 +1,7 @@
 //! Damages to the term X and to prices: a price that X does not allow, or one that it does and
-//! that changes the gain.
+//! that changes the gain or lies beyond five times S or a fifth of it.
+
+use std::ops::Range;
 
 use super::damage_bytes::{any_field_of, fields, set_value};
 use super::rng::Rng;
@@ -103,18 +105,74 @@ pub fn price_replaced(rng: &mut Rng, bytes: &mut Vec<u8>) {
     change_price(rng, bytes, |rng, price| *price = rng.pick(PRICES).into());
 }
 
+/// The point of a price one place or two further on or back, as a clerk types 40000.00 for 400.00; a whole figure gets zeros or
+/// loses digits. Where S itself is so changed, the first trade is far from it.
+pub fn point_moved(rng: &mut Rng, bytes: &mut Vec<u8>) {
+    let way = rng.below(4);
+    change_price(rng, bytes, |_, price| {
+        let Ok(number) = price.replace('.', "").parse::<u32>() else {
+            return;
+        };
+        let other = match way {
+            0 => number.saturating_mul(10),
+            1 => number.saturating_mul(100),
+            2 => number / 10,
+            _ => number / 100,
+        };
+        *price = written(other, price.contains('.'));
+    });
+}
+
+/// The price of a trade at a bound of the book's S, or up to two fen or yuan beside it.
+pub fn about_a_bound(rng: &mut Rng, bytes: &mut Vec<u8>) {
+    let Some(settlement) = settlement(bytes) else {
+        return;
+    };
+    let bound = rng.pick(&[5 * settlement, settlement / 5, settlement.div_ceil(5)]);
+    let beside = i64::from(bound) + rng.pick(&[0, 0, 1, -1, 2, -2]);
+    let Some(field) = any_field_of(rng, bytes, b"AB") else {
+        return;
+    };
+    change_first_word(bytes, field, |price| {
+        *price = written(beside.max(0) as u32, price.contains('.'));
+    });
+}
+
+/// S in fen or yuan, as long as it can be read.
+fn settlement(bytes: &[u8]) -> Option<u32> {
+    let s = fields(bytes)
+        .into_iter()
+        .find(|field| bytes[field.start] == b'S')?;
+    let text = std::str::from_utf8(&bytes[s.start + 3..s.end]).ok()?;
+    let number: u32 = text.replace('.', "").parse().ok()?;
+    (number < 10_000_000).then_some(number)
+}
+
+/// A number of fen with its point, or one of yuan.
+fn written(number: u32, with_point: bool) -> String {
+    if with_point {
+        format!("{}.{:02}", number / 100, number % 100)
+    } else {
+        number.to_string()
+    }
+}
+
 /// Changes the first word of S or of any trade. S is one field and trades are many, so it is
 /// taken once in three times.
 fn change_price(rng: &mut Rng, bytes: &mut Vec<u8>, change: impl FnOnce(&mut Rng, &mut String)) {
     let tags: &[u8] = if rng.one_in(3) { b"S" } else { b"AB" };
-    let Some(field) = any_field_of(rng, bytes, tags) else {
-        return;
-    };
+    if let Some(field) = any_field_of(rng, bytes, tags) {
+        change_first_word(bytes, field, |price| change(rng, price));
+    }
+}
+
+/// Changes what stands before the first blank of a value, or all of it.
+fn change_first_word(bytes: &mut Vec<u8>, field: Range<usize>, change: impl FnOnce(&mut String)) {
     let Ok(text) = std::str::from_utf8(&bytes[field.start + 3..field.end]) else {
         return;
     };
-    let (price, rest) = text.split_at(text.find(' ').unwrap_or(text.len()));
-    let (mut price, rest) = (price.to_string(), rest.to_string());
-    change(rng, &mut price);
-    set_value(bytes, field, (price + &rest).as_bytes());
+    let (word, rest) = text.split_at(text.find(' ').unwrap_or(text.len()));
+    let (mut word, rest) = (word.to_string(), rest.to_string());
+    change(&mut word);
+    set_value(bytes, field, (word + &rest).as_bytes());
 }

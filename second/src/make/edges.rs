@@ -1,6 +1,7 @@
 //! Books at the edges of the rules. Edge prices and exact sizes have their own files.
 
 use super::at_price;
+use super::bounds;
 use super::codes;
 use super::draft::{Draft, Group, Terms, Trade, MOST_LOTS, MOST_PRICE, MOST_RATE};
 use super::groups::{group, Position};
@@ -13,8 +14,9 @@ type Make = fn(&mut Rng) -> Draft;
 
 /// The kinds with their weights: books of tens of thousands of bytes are rare, so
 /// that millions of books are made quickly.
-const KINDS: [(u64, (&str, Make)); 11] = [
-    (37, ("edge price", at_price::draft)),
+const KINDS: [(u64, (&str, Make)); 12] = [
+    (27, ("edge price", at_price::draft)),
+    (10, ("price bound", bounds::draft)),
     (3, ("about a hundred trades", sizes::about_a_hundred)),
     (25, ("ties", ties)),
     (10, ("nested codes", nested_codes)),
@@ -27,8 +29,8 @@ const KINDS: [(u64, (&str, Make)); 11] = [
     (1, ("many trades", sizes::many_trades)),
 ];
 
-/// An edge book and the name of its kind. Only books with 257 customers or 60,001
-/// bytes aren't accepted.
+/// An edge book and the name of its kind. Only books with 257 customers, with 60,001 bytes
+/// or with a price beyond its bounds aren't accepted.
 pub fn draft(rng: &mut Rng) -> (&'static str, Draft) {
     let (kind, make) = rng.weighted(&KINDS);
     (kind, make(rng))
@@ -176,11 +178,14 @@ fn largest_group(rng: &mut Rng, terms: &Terms, code: Vec<u8>) -> Group {
     let held = [0, 1, MOST_LOTS - 1, MOST_LOTS];
     let (long, short) = (rng.pick(&held), rng.pick(&held));
     // The oldest trade on either side reaches every position.
-    let mut trades = vec![largest_trade(rng, true), largest_trade(rng, false)];
+    let mut trades = vec![
+        largest_trade(rng, terms, true),
+        largest_trade(rng, terms, false),
+    ];
     trades.iter_mut().for_each(|trade| trade.lots = MOST_LOTS);
     for _ in 0..rng.between(0, 3) {
         let bought = rng.one_in(2);
-        trades.push(largest_trade(rng, bought));
+        trades.push(largest_trade(rng, terms, bought));
     }
     let mut group = Group {
         code,
@@ -194,8 +199,8 @@ fn largest_group(rng: &mut Rng, terms: &Terms, code: Vec<u8>) -> Group {
     group
 }
 
-fn largest_trade(rng: &mut Rng, bought: bool) -> Trade {
-    let price = rng.pick(&[1, 2, MOST_PRICE - 1, MOST_PRICE]);
+fn largest_trade(rng: &mut Rng, terms: &Terms, bought: bool) -> Trade {
+    let price = terms.bound_price(rng);
     let lots = rng.pick(&[1, MOST_LOTS - 1, MOST_LOTS]);
     Trade::new(bought, price, lots)
 }

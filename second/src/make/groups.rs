@@ -28,7 +28,7 @@ pub fn group(rng: &mut Rng, terms: &Terms, code: Vec<u8>, at: Position, depth: D
         long: is_long,
         net: at.net,
         total: at.total,
-        settlement: terms.settlement,
+        terms,
     };
     let trades = if at.net == 0 {
         loose_trades(rng, wanted, depth)

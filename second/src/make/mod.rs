@@ -8,6 +8,7 @@
 //! the same bytes on every machine.
 
 mod at_price;
+mod bounds;
 mod codes;
 mod damage;
 mod damage_bytes;

@@ -1,18 +1,18 @@
 //! Trades made to give a wanted total gain.
 
-use super::draft::{Trade, MOST_LOTS, MOST_PRICE};
+use super::draft::{Terms, Trade, MOST_LOTS};
 use super::rng::Rng;
 
 /// A net position and the gain that its trades are to give.
 #[derive(Clone, Copy)]
-pub struct Wanted {
+pub struct Wanted<'a> {
     pub long: bool,
     /// Above 0.
     pub net: u32,
     /// In fen or yuan, signed.
     pub total: i64,
-    /// S, in the same.
-    pub settlement: u32,
+    /// Whose S the gain is measured from, and holds prices between its bounds.
+    pub terms: &'a Terms,
 }
 
 /// How many trades a customer gets, at the most, of each sort.
@@ -30,7 +30,7 @@ pub struct Depth {
 type Part = (u32, i64);
 
 /// A customer's trades, oldest first. Those that count gain exactly the wanted total,
-/// unless a price would leave its range and is cut to it; they always reach the net
+/// unless a price would leave its bounds and is cut to them; they always reach the net
 /// position.
 pub fn trades(rng: &mut Rng, wanted: Wanted, depth: Depth) -> Vec<Trade> {
     let mut parts = even_parts(wanted);
@@ -77,7 +77,7 @@ fn even_parts(wanted: Wanted) -> Vec<Part> {
 fn split(rng: &mut Rng, wanted: Wanted, parts: &mut Vec<Part>) {
     let at = rng.place(parts.len());
     let (lots, gain) = parts[at];
-    let spread = i64::from(rng.between(1, wanted.settlement / 50 + 2));
+    let spread = i64::from(rng.between(1, wanted.terms.settlement / 50 + 2));
     if lots < 2 || !fits(wanted, gain + spread) || !fits(wanted, gain - spread) {
         return;
     }
@@ -99,12 +99,16 @@ fn lengthen_oldest(rng: &mut Rng, newest_first: &mut [Trade]) {
     }
 }
 
-/// A trade that isn't to count, at any price near or far.
+/// A trade that isn't to count, at any good price: near S, anywhere or at a bound.
 fn loose(rng: &mut Rng, wanted: Wanted, bought: bool) -> Trade {
-    let near = wanted.settlement / 2 + rng.between(0, wanted.settlement);
-    let far = rng.between(1, MOST_PRICE);
-    let price = if rng.one_in(4) { far } else { near };
-    Trade::new(bought, price.clamp(1, MOST_PRICE), lots(rng))
+    let (terms, settlement) = (wanted.terms, wanted.terms.settlement);
+    let price = match rng.below(8) {
+        0 => terms.any_price(rng),
+        1 => terms.bound_price(rng),
+        _ => settlement / 2 + rng.between(0, settlement),
+    };
+    let price = price.clamp(terms.least_price(), terms.most_price());
+    Trade::new(bought, price, lots(rng))
 }
 
 /// Lots of a trade or a position: mostly few, sometimes many.
@@ -114,12 +118,13 @@ pub fn lots(rng: &mut Rng) -> u32 {
 }
 
 fn fits(wanted: Wanted, gain: i64) -> bool {
-    (1..=i64::from(MOST_PRICE)).contains(&price(wanted, gain))
+    let bounds = i64::from(wanted.terms.least_price())..=i64::from(wanted.terms.most_price());
+    bounds.contains(&price(wanted, gain))
 }
 
 /// The price at which a lot has this gain: below S for a long position.
 fn price(wanted: Wanted, gain: i64) -> i64 {
-    let settlement = i64::from(wanted.settlement);
+    let settlement = i64::from(wanted.terms.settlement);
     if wanted.long {
         settlement - gain
     } else {
@@ -128,6 +133,7 @@ fn price(wanted: Wanted, gain: i64) -> i64 {
 }
 
 fn trade(wanted: Wanted, (lots, gain): Part) -> Trade {
-    let price = price(wanted, gain).clamp(1, i64::from(MOST_PRICE)) as u32;
+    let (least, most) = (wanted.terms.least_price(), wanted.terms.most_price());
+    let price = price(wanted, gain).clamp(least.into(), most.into()) as u32;
     Trade::new(wanted.long, price, lots)
 }

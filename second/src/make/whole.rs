@@ -44,6 +44,11 @@ pub fn draft(rng: &mut Rng) -> Draft {
 /// A whole book with this many customers (more than 256 make it one too many).
 pub fn of_count(rng: &mut Rng, count: usize) -> Draft {
     let terms = terms(rng);
+    with_terms(rng, terms, count)
+}
+
+/// The same with these terms.
+pub fn with_terms(rng: &mut Rng, terms: Terms, count: usize) -> Draft {
     let codes = codes::mixed(rng, count);
     // The largest books must stay below 60,000 bytes.
     let depth = if count > 120 {

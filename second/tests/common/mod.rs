@@ -60,6 +60,20 @@ pub fn fields(mut bytes: &[u8]) -> Vec<(u8, &[u8])> {
     fields
 }
 
+/// The fields from the front, as far as the bytes can be taken for fields.
+pub fn fields_of_front(mut bytes: &[u8]) -> Vec<(u8, &[u8])> {
+    let mut fields = Vec::new();
+    while let [tag, high, low, rest @ ..] = bytes {
+        let length = usize::from(*high) * 256 + usize::from(*low);
+        if length > rest.len() {
+            break;
+        }
+        fields.push((*tag, &rest[..length]));
+        bytes = &rest[length..];
+    }
+    fields
+}
+
 /// A report taken apart.
 #[derive(Clone, Debug, PartialEq, Eq)]
 pub struct Report {
