@@ -17,9 +17,9 @@ use Rattle.rules.specs.Stamp.{stampOf}
 use Rattle.rules.specs.Opening.{openingOf}
 use Rattle.rules.specs.Codes.{isCode}
 use Rattle.rules.specs.Fields.{fieldsIn, fieldsOf}
-use Rattle.rules.specs.Book.{Customer, begun, DueTrade, Open, DueD, AtTerm, InGroup, noTerms, Reading, Stage, within, step, Verdict, Refused, walk, judge}
+use Rattle.rules.specs.Book.{Customer, begun, seatAt, joinedBy, DueSeat, Open, DueD, AtTerm, InGroup, noTerms, Reading, Stage, within, step, Verdict, Refused, walk, judge}
 use Rattle.rules.specs.Answer.{answerOf, answer}
-use Rattle.cases.specs.Tables.{begins, end}
+use Rattle.cases.specs.Tables.{theSeat, begins, end}
 use Rattle.cases.specs.Case.{refuses, answered, holds, Holds, so, AllHold, done, _&_}
 use Rattle.cases.specs.Refusals.{idle, lacking}
 use Rattle.cases.specs.Crowded.{nth, crowd, the256th, crowded}
@@ -27,16 +27,20 @@ use Rattle.cases.specs.Crowded.{nth, crowd, the256th, crowded}
 abbrev goldTerms : Terms
 goldTerms = record { down = true; decimals = 2; settlement = fen 40_000; loss = rate 8_000; edge1 = rate 8_000; edge2 = rate 4_000 }
 
+-- a customer of one seat without a position
+abbrev idleOf : ℕ → Customer
+idleOf n = joinedBy (begun (nth n)) (seatAt (bytes theSeat) 0 0 0)
+
 abbrev readBefore : List Customer → ℕ → List Customer
 readBefore rest zero = rest
-readBefore rest (suc n) = readBefore (begun (nth n) ∷ rest) n
+readBefore rest (suc n) = readBefore (idleOf n ∷ rest) n
 
 abbrev start : Stage
 start = Reading (AtTerm DueD noTerms)
 
 -- where the walk stands after 255 customers
 unfoldable here : Stage
-here = Reading (InGroup goldTerms (readBefore [] 254) (Open DueTrade (begun (nth 254))))
+here = Reading (InGroup goldTerms (readBefore [] 254) (Open DueSeat (idleOf 254)))
 
 -- how many fields that is; and a bound with so many more
 unfoldable many : ℕ

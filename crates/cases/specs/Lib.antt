@@ -10,6 +10,7 @@ pub mod Outcomes
 pub mod Nights
 pub mod Silver
 pub mod LostPoints
+pub mod Seats
 pub mod Crowded
 pub mod Hold
 pub mod HoldCrowded

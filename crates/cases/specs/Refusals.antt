@@ -7,7 +7,7 @@ use mathlib.Core.List.{List, [], _∷_, _++_}
 use lib.ListN.{length, take, drop, replicate}
 use Rattle.rules.specs.Text.{bytes}
 use Rattle.rules.specs.Report.{field}
-use Rattle.cases.specs.Tables.{terms, term, beforeS, beforeL, beforeU, beforeV, gold, goldUp, bought, sold, begins, held, customer, end, book, totals, entry}
+use Rattle.cases.specs.Tables.{terms, term, beforeS, beforeL, beforeU, beforeV, gold, goldUp, bought, sold, beginsSeated, held, customer, end, book, totals, entry}
 use Rattle.cases.specs.Case.{Case, answers, refuses, refusedAfter, reports}
 use Rattle.cases.specs.Cases.{theListing}
 
@@ -28,7 +28,7 @@ lacking = customer "A" "5" "0" "0" (bought "400.00 4" ∷ [])
 
 -- what stands before the K, the H and the Q of the only customer
 abbrev pub beforeK : List ℕ
-beforeK = gold ++ begins (bytes "A")
+beforeK = gold ++ beginsSeated (bytes "A")
 
 abbrev pub beforeH : String → List ℕ
 beforeH k = beforeK ++ held "K" k
@@ -97,7 +97,7 @@ refusals =
     ∷ accepts "U just above V" (terms "D" "400.00" "8.000" "4.001" "4.000")
     ∷ refusedAfter "7: a code given before" (gold ++ idle "A" ++ idle "B") (idle "A" ++ end) 7
     ∷ refusedAfter "8: Q above K, locked down" (beforeQ "5" "9") (held "Q" "6" ++ end) 8
-    ∷ refusedAfter "8: Q above H, locked up" (goldUp ++ begins (bytes "A") ++ held "K" "9" ++ held "H" "5") (held "Q" "6" ++ end) 8
+    ∷ refusedAfter "8: Q above H, locked up" (goldUp ++ beginsSeated (bytes "A") ++ held "K" "9" ++ held "H" "5") (held "Q" "6" ++ end) 8
     ∷ refusedAfter "9: at Z" gold (lacking ++ end) 9
     ∷ refusedAfter "9: at C, the customer's own C" (gold ++ idle "B") (lacking ++ idle "C" ++ end) 9
     ∷ refusedAfter "9: trades on the other side do not count" gold (customer "A" "5" "0" "0" (sold "400.00 5" ∷ []) ++ end) 9

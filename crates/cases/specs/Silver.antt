@@ -8,7 +8,7 @@ use mathlib.Core.List.{List, [], _∷_, _++_}
 use lib.ListN.{take}
 use Rattle.rules.specs.Text.{bytes}
 use Rattle.rules.specs.Report.{field}
-use Rattle.cases.specs.Tables.{lock, term, front, edges, termsWith, gold, made, bought, sold, boughtAs, begins, held, customer, end, book, totals, entry}
+use Rattle.cases.specs.Tables.{lock, term, front, edges, termsWith, gold, made, bought, sold, boughtAs, beginsSeated, held, customer, end, book, totals, entry}
 use Rattle.cases.specs.Case.{Case, prints, loses, refusedAfter, reports}
 use Rattle.cases.specs.Refusals.{idle, refusedAtTrade, accepts}
 
@@ -40,7 +40,7 @@ abbrev refusedAtLInYuan : String → String → ℕ → Case
 refusedAtLInYuan n l number = refusedAfter n (front "D" "0" ++ term "S" "8000") (edges l "10.000" "5.000" ++ end) number
 
 abbrev refusedAtKInYuan : String → String → ℕ → Case
-refusedAtKInYuan n k number = refusedAfter n (yuan ++ begins (bytes "A")) (held "K" k ++ held "H" "0" ++ held "Q" "0" ++ end) number
+refusedAtKInYuan n k number = refusedAfter n (yuan ++ beginsSeated (bytes "A")) (held "K" k ++ held "H" "0" ++ held "Q" "0" ++ end) number
 
 -- what a book's only customer loses on one lot: the values of S and of a price, in yuan with X 0 and in fen with X 2
 abbrev buyer : String → String → String → String → ℕ → Case

@@ -4,7 +4,7 @@
 use Prim.Native.Nat.{ℕ}
 use Prim.Native.Char.{Char}
 use Prim.Native.String.{String}
-use mathlib.Core.List.{List, [], _++_}
+use mathlib.Core.List.{List, [], _∷_, _++_}
 use Rattle.rules.specs.Text.{bytes}
 use Rattle.rules.specs.Report.{field, joined}
 
@@ -69,17 +69,31 @@ bought v = field "B" (bytes v ++ made)
 abbrev pub sold : String → List ℕ
 sold v = field "A" (bytes v ++ made)
 
--- C, and what stands before K
+-- C, and what stands before the seats
 abbrev pub begins : List ℕ → List ℕ
 begins code = field "C" code
 
--- one of K, H, Q
+-- one of I, K, H, Q
 abbrev pub held : Char → String → List ℕ
 held tag n = field tag (bytes n)
 
--- C, K, H, Q, then the trades
+-- I, K, H, Q
+abbrev pub seat : String → String → String → String → List ℕ
+seat code k h q = held "I" code ++ held "K" k ++ held "H" h ++ held "Q" q
+
+-- C, the seats, then the trades
+abbrev pub seated : List ℕ → List (List ℕ) → List (List ℕ) → List ℕ
+seated code seats trades = begins code ++ joined (λ s. s) seats ++ joined (λ t. t) trades
+
+-- "01's cases take one seat": C, and what stands before its K
+abbrev pub theSeat : String
+theSeat = "M1"
+
+abbrev pub beginsSeated : List ℕ → List ℕ
+beginsSeated code = begins code ++ held "I" theSeat
+
 abbrev pub group : List ℕ → String → String → String → List (List ℕ) → List ℕ
-group code k h q trades = begins code ++ held "K" k ++ held "H" h ++ held "Q" q ++ joined (λ t. t) trades
+group code k h q trades = seated code (seat theSeat k h q ∷ []) trades
 
 abbrev pub customer : String → String → String → String → List (List ℕ) → List ℕ
 customer c k h q trades = group (bytes c) k h q trades
@@ -91,9 +105,16 @@ end = field "Z" []
 abbrev pub book : List ℕ → List (List ℕ) → List ℕ
 book tms groups = tms ++ joined (λ g. g) groups ++ end
 
--- a report: T and R, and C, E, O of each customer
+-- a report: T and R, and of each customer C, E, O, then I and J of each seat
 abbrev pub totals : String → String → List ℕ
 totals t r = field "T" (bytes t) ++ field "R" (bytes r)
 
+abbrev pub seatEntry : String → String → List ℕ
+seatEntry i j = field "I" (bytes i) ++ field "J" (bytes j)
+
+abbrev pub entryOver : String → String → String → List (List ℕ) → List ℕ
+entryOver c e o seats = field "C" (bytes c) ++ field "E" (bytes e) ++ field "O" (bytes o) ++ joined (λ s. s) seats
+
+-- with one seat, which has all of the offset
 abbrev pub entry : String → String → String → List ℕ
-entry c e o = field "C" (bytes c) ++ field "E" (bytes e) ++ field "O" (bytes o)
+entry c e o = entryOver c e o (seatEntry theSeat o ∷ [])

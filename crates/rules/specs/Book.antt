@@ -1,9 +1,9 @@
 -- docs/RULES.md, sections 3, 6 and 7.
--- Document 01, "The book, field by field" (which tag may stand where), "Refusal numbers" 1 to 10 with their places, and 12 of request [4].
+-- Document 01, "The book, field by field" (which tag may stand where), "Refusal numbers" 1 to 10 with their places, 12 of request [4] and 13 of request [5].
 -- Assumes nothing.
 use Prim.Native.Nat.{ℕ, _+_, _-_, _*_, min, max}
 use mathlib.Core.List.{List, [], _∷_, _++_}
-use mathlib.Core.Bool.{Bool, true, false, cond, not, _||_}
+use mathlib.Core.Bool.{Bool, true, false, cond, not, _&&_, _||_}
 use lib.ListN.{length}
 use lib.Dec.{leb, ltb, eqb}
 use Rattle.rules.specs.declared.Fen.{Fen}
@@ -17,12 +17,13 @@ use Rattle.rules.specs.declared.Opening.the-variants.{Made}
 use Rattle.rules.specs.declared.Opening.the-variants.{Comma as CommaIn}
 use Rattle.rules.specs.declared.Opening.the-variants.{Malformed as NoTrade}
 use Rattle.rules.specs.Refusal as refusal
-use Rattle.rules.specs.Limits.{longestBook, mostCustomers}
+use Rattle.rules.specs.Limits.{longestBook, mostCustomers, mostSeats}
 use Rattle.rules.specs.Text.{is, bytes}
 use Rattle.rules.specs.Figures.{fen, lots, rate, priceForm, rateForm, heldForm, figureOf}
 use Rattle.rules.specs.Opening.{openingOf, among}
 use Rattle.rules.specs.Codes.{isCode, same}
 use Rattle.rules.specs.Fields.{Field, Whole, Cut, fieldsOf}
+use Rattle.rules.specs.Division.{sumOf}
 
 -- "Net position: the larger of K and H less the smaller, on the larger's side."
 abbrev pub net : Position → ℕ
@@ -31,11 +32,29 @@ net p = max (p .long .0) (p .short .0) - min (p .long .0) (p .short .0)
 abbrev pub netLong : Position → Bool
 netLong p = ltb (p .short .0) (p .long .0)
 
--- "C, K, H, Q, then opening trades". The trades are held newest first
-pub record Customer : Type 0 where
+-- "1 to 4 seats, each an I field (seat code, formed as a customer code) with its own K, H, Q"
+pub record Seat : Type 0 where
   pub code : List ℕ
   pub position : Position
+
+-- "a customer may hold through several members, positions added up"
+abbrev pub added : List Seat → Position
+added seats =
+    record {
+      long = lots (sumOf (λ (s : Seat). s .position .long .0) seats);
+      short = lots (sumOf (λ (s : Seat). s .position .short .0) seats);
+      unfilled = lots (sumOf (λ (s : Seat). s .position .unfilled .0) seats);
+    }
+
+-- "After C a group now has 1 to 4 seats ..; the customer's trades follow." The seats are in the book's order; the trades are held newest first
+pub record Customer : Type 0 where
+  pub code : List ℕ
+  pub seats : List Seat
   pub trades : List Trade
+
+-- "Net, pending and test 9 use the sums"
+abbrev pub position : Customer → Position
+position c = added (c .seats)
 
 -- a trade is on a side: bought for a long position, sold for a short one
 abbrev pub onSide : Bool → Trade → Bool
@@ -48,9 +67,9 @@ opened long (t ∷ ts) = cond (onSide long t) (t .lots .0) 0 + opened long ts
 
 -- 9: "the customer's opening trades on the side of its net position sum to less than that position"
 abbrev pub uncovered : Customer → Bool
-uncovered c = ltb (opened (netLong (c .position)) (c .trades)) (net (c .position))
+uncovered c = ltb (opened (netLong (position c)) (c .trades)) (net (position c))
 
--- 8: "Q exceeds K when locked down, or H when locked up"
+-- 8: "Q exceeds K when locked down, or H when locked up", and "test 8 is per seat"
 abbrev pub overdrawn : Terms → Position → Bool
 overdrawn terms p = ltb (cond (terms .down) (p .long .0) (p .short .0)) (p .unfilled .0)
 
@@ -58,10 +77,18 @@ overdrawn terms p = ltb (cond (terms .down) (p .long .0) (p .short .0)) (p .unfi
 abbrev pub astray : Fen → Fen → Bool
 astray s price = ltb (5 * s .0) (price .0) || ltb (5 * price .0) (s .0)
 
+-- a code that one of a list has
+abbrev pub taken : {A : Type 0} → (A → List ℕ) → List ℕ → List A → Bool
+taken code v [] = false
+taken code v (a ∷ rest) = same (code a) v || taken code v rest
+
 -- 7: "a customer code was given before"
 abbrev pub given : List ℕ → List Customer → Bool
-given v [] = false
-given v (c ∷ cs) = same (c .code) v || given v cs
+given v cs = taken (λ (c : Customer). c .code) v cs
+
+-- 13: "a seat code twice in one customer"
+abbrev pub seated : List ℕ → List Seat → Bool
+seated v seats = taken (λ (s : Seat). s .code) v seats
 
 -- What one field comes to: a refusal's number, or what it leads to. No place is seen here.
 pub data Step (A : Type 0) : Type 0 where
@@ -99,54 +126,68 @@ module _ {A : Type 0} where
   abbrev pub places : List ℕ → (ℕ → Step A) → Step A
   places v next = cond (same v (bytes "0")) (next 0) (cond (same v (bytes "2")) (next 2) (Stop refusal.malformed))
 
--- "Customers: C, K, H, Q, then opening trades, each B or A": which of a customer's fields is due
+-- "C", "1 to 4 seats, each an I field .. with its own K, H, Q", then "opening trades, each B or A": which of a customer's fields is due. A seat that
+-- is not read to its end is here, with no lots that are not read; after a seat either one more may come or a trade, and after a trade only trades
 pub data Part : Type 0 where
-  DueK : Part
-  DueH : Part
-  DueQ : Part
+  DueI : Part
+  DueK : Seat → Part
+  DueH : Seat → Part
+  DueQ : Seat → Part
+  DueSeat : Part
   DueTrade : Part
 
--- a customer's group: nobody's yet, or which part is due and the customer as far as it is read, with no lots and no trades that are not read
+-- a customer's group: nobody's yet, or which part is due and the customer as far as it is read
 pub data Group : Type 0 where
   Nobody : Group
   Open : Part → Customer → Group
 
 abbrev pub begun : List ℕ → Customer
-begun code = record { code = code; position = record { long = lots 0; short = lots 0; unfilled = lots 0 }; trades = [] }
+begun code = record { code = code; seats = []; trades = [] }
 
 -- after its C
 abbrev pub afterC : List ℕ → Group
-afterC code = Open DueK (begun code)
+afterC code = Open DueI (begun code)
 
-abbrev pub held : Customer → Position → Customer
-held c p = record { code = c .code; position = p; trades = c .trades }
+abbrev pub seatAt : List ℕ → ℕ → ℕ → ℕ → Seat
+seatAt code k h q = record { code = code; position = record { long = lots k; short = lots h; unfilled = lots q } }
+
+abbrev pub joinedBy : Customer → Seat → Customer
+joinedBy c s = record { code = c .code; seats = c .seats ++ s ∷ []; trades = c .trades }
 
 abbrev pub traded : Customer → Trade → Customer
-traded c t = record { code = c .code; position = c .position; trades = among t (c .trades) }
+traded c t = record { code = c .code; seats = c .seats; trades = among t (c .trades) }
 
--- K, H, Q and the trades: they depend on the terms and on the customer's own fields alone
-unfoldable pub within : Terms → Group → ℕ → List ℕ → Step Group
-within terms Nobody t v = Stop refusal.misplaced
-within terms (Open DueK c) t v =
-    must (is "K" t) (figure (figureOf heldForm v) λ k.
-    Next (Open DueH (held c (record { long = lots k; short = c .position .short; unfilled = c .position .unfilled }))))
-within terms (Open DueH c) t v =
-    must (is "H" t) (figure (figureOf heldForm v) λ h.
-    Next (Open DueQ (held c (record { long = c .position .long; short = lots h; unfilled = c .position .unfilled }))))
-within terms (Open DueQ c) t v =
-    must (is "Q" t) (figure (figureOf heldForm v) λ q.
-    let p : Position = record { long = c .position .long; short = c .position .short; unfilled = lots q } in
-    refuse refusal.overdrawn (overdrawn terms p) (Next (Open DueTrade (held c p))))
--- "12, at the trade's tag, after 4 and 5 for that field"
-within terms (Open DueTrade c) t v =
+-- at I: 5, then "13, a seat code twice in one customer, at its I, after 5"
+abbrev pub sits : List ℕ → Customer → Step Group
+sits v c = refuse refusal.malformed (not (isCode v)) (refuse refusal.seatTwice (seated v (c .seats)) (Next (Open (DueK (seatAt v 0 0 0)) c)))
+
+-- at B or A: 4 and 5, then "12, at the trade's tag, after 4 and 5 for that field"
+abbrev pub trades : Terms → Customer → ℕ → List ℕ → Step Group
+trades terms c t v =
     must (is "B" t || is "A" t) (trade (terms .decimals) (openingOf (is "B" t) v) λ x.
     refuse refusal.astray (astray (terms .settlement) (x .price)) (Next (Open DueTrade (traded c x))))
 
--- a group may end once its Q is read
+-- The seats and the trades: they depend on the terms and on the customer's own fields alone. "a fifth seat is 3"
+unfoldable pub within : Terms → Group → ℕ → List ℕ → Step Group
+within terms Nobody t v = Stop refusal.misplaced
+within terms (Open DueI c) t v = must (is "I" t) (sits v c)
+within terms (Open (DueK s) c) t v = must (is "K" t) (figure (figureOf heldForm v) λ k. Next (Open (DueH (seatAt (s .code) k 0 0)) c))
+within terms (Open (DueH s) c) t v =
+    must (is "H" t) (figure (figureOf heldForm v) λ h. Next (Open (DueQ (seatAt (s .code) (s .position .long .0) h 0)) c))
+within terms (Open (DueQ s) c) t v =
+    must (is "Q" t) (figure (figureOf heldForm v) λ q.
+    let seat = seatAt (s .code) (s .position .long .0) (s .position .short .0) q in
+    refuse refusal.overdrawn (overdrawn terms (seat .position)) (Next (Open DueSeat (joinedBy c seat))))
+within terms (Open DueSeat c) t v = cond (is "I" t && ltb (length (c .seats)) mostSeats) (sits v c) (trades terms c t v)
+within terms (Open DueTrade c) t v = trades terms c t v
+
+-- a group may end once a seat's Q is read
 abbrev pub mayEnd : Part → Bool
-mayEnd DueK = false
-mayEnd DueH = false
-mayEnd DueQ = false
+mayEnd DueI = false
+mayEnd (DueK s) = false
+mayEnd (DueH s) = false
+mayEnd (DueQ s) = false
+mayEnd DueSeat = true
 mayEnd DueTrade = true
 
 -- "Terms, each once: D, S, L, U, V", and "X after D": which of them is due
@@ -214,7 +255,7 @@ withEdge1 ts u = record { down = ts .down; decimals = ts .decimals; settlement =
 abbrev pub withEdge2 : Terms → ℕ → Terms
 withEdge2 ts v = record { down = ts .down; decimals = ts .decimals; settlement = ts .settlement; loss = ts .loss; edge1 = ts .edge1; edge2 = rate v }
 
--- "For one field: 2, 3, then (at C or Z after a customer) 9 for that customer, then 10, 4, 5, then 6 at V, 7 at C, 8 at Q."
+-- "For one field: 2, 3, then (at C or Z after a customer) 9 for that customer, then 10, 4, 5, then 6 at V, 7 at C, 8 at Q." And 13 at I, after 5.
 unfoldable pub step : Due → ℕ → List ℕ → Step Stage
 step (AtTerm DueD ts) t v = must (is "D" t) (lock v λ d. Next (Reading (AtTerm DueX (locked ts d))))
 step (AtTerm DueX ts) t v = must (is "X" t) (places v λ x. Next (Reading (AtTerm DueS (withDecimals ts x))))

@@ -8,13 +8,14 @@ use Rattle.rules.specs.declared.Terms.{Terms}
 use Rattle.rules.specs.declared.Position.{Position}
 use Rattle.rules.specs.declared.Standing.{Standing}
 use Rattle.rules.specs.declared.Standing.the-variants.{Pending, Tier1, Tier2, Tier3, Neither}
-use Rattle.rules.specs.Book.{Customer, net}
+use Rattle.rules.specs.Book.{Seat, Customer, position, net}
 use Rattle.rules.specs.Standing.{standing, countedPending}
 use Rattle.rules.specs.Division.{sumOf, share}
 
--- A customer in the cascade: its standing, what it offers, what it still has pending, and its offset so far.
+-- A customer in the cascade: its seats, its standing, what it offers, what it still has pending, and its offset so far.
 pub record Line : Type 0 where
   pub code : List ℕ
+  pub seats : List Seat
   pub standing : Standing
   pub offered : ℕ
   pub pending : ℕ
@@ -46,7 +47,7 @@ pendingBy Neither p = 0
 unfoldable pub lineOf : Terms → Customer → Line
 lineOf terms c =
     let s = standing terms c in
-    record { code = c .code; standing = s; offered = offeredBy s (c .position); pending = pendingBy s (c .position); offset = 0 }
+    record { code = c .code; seats = c .seats; standing = s; offered = offeredBy s (position c); pending = pendingBy s (position c); offset = 0 }
 
 abbrev pub codeOf : Line → List ℕ
 codeOf l = l .code
@@ -69,7 +70,7 @@ after k ls l =
     let x = quantity k ls in
     let gives = share codeOf (offeredIn k) x ls l in
     let closes = share codeOf pendingOf x ls l in
-    record { code = l .code; standing = l .standing; offered = l .offered; pending = l .pending - closes; offset = l .offset + gives + closes }
+    record { code = l .code; seats = l .seats; standing = l .standing; offered = l .offered; pending = l .pending - closes; offset = l .offset + gives + closes }
 
 abbrev pub tier : ℕ → List Line → List Line
 tier k ls = map (after k ls) ls

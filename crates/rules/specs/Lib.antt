@@ -11,5 +11,6 @@ pub mod Book
 pub mod Standing
 pub mod Division
 pub mod Cascade
+pub mod Seats
 pub mod Report
 pub mod Answer

@@ -13,3 +13,7 @@ mostCustomers = 256
 -- "customer code: 1 to 12 bytes"
 abbrev pub longestCode : ℕ
 longestCode = 12
+
+-- "1 to 4 seats"
+abbrev pub mostSeats : ℕ
+mostSeats = 4

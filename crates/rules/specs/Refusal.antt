@@ -54,3 +54,7 @@ noRoom = 11
 -- Request [4]: "a trade price above five times S or below a fifth of S"
 abbrev pub astray : ℕ
 astray = 12
+
+-- "a seat code twice in one customer"
+abbrev pub seatTwice : ℕ
+seatTwice = 13

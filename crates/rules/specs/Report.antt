@@ -9,8 +9,9 @@ use lib.Dec.{ltb}
 use Rattle.rules.specs.declared.Standing.{Standing}
 use Rattle.rules.specs.declared.Standing.the-variants.{Pending, Tier1, Tier2, Tier3, Neither}
 use Rattle.rules.specs.Text.{bytes}
-use Rattle.rules.specs.Book.{Verdict, Refused, Accepted, judge}
+use Rattle.rules.specs.Book.{Seat, Verdict, Refused, Accepted, judge}
 use Rattle.rules.specs.Cascade.{Line, Outcome, outcome}
+use Rattle.rules.specs.Seats.{seatLots}
 
 abbrev pub digit : ℕ → ℕ
 digit n = code "0" + n
@@ -42,9 +43,14 @@ abbrev pub joined : {A : Type 0} → (A → List ℕ) → List A → List ℕ
 joined f [] = []
 joined f (a ∷ rest) = f a ++ joined f rest
 
+-- "In the report each customer's O is followed by I and J (lots) for each seat."
+unfoldable pub reportedSeat : Line → Seat → List ℕ
+reportedSeat l s = field "I" (s .code) ++ field "J" (digits (seatLots l s))
+
 -- "for each customer in book order C code, E standing (one byte), O offset lots"
 unfoldable pub reported : Line → List ℕ
-reported l = field "C" (l .code) ++ field "E" (letter (l .standing) ∷ []) ++ field "O" (digits (l .offset))
+reported l =
+    field "C" (l .code) ++ field "E" (letter (l .standing) ∷ []) ++ field "O" (digits (l .offset)) ++ joined (reportedSeat l) (l .seats)
 
 -- "Report fields: T total, R residue, then for each customer .."
 unfoldable pub report : Outcome → List ℕ

@@ -13,7 +13,7 @@ use Rattle.rules.specs.declared.Position.{Position}
 use Rattle.rules.specs.declared.Trade.{Trade}
 use Rattle.rules.specs.declared.Standing.{Standing}
 use Rattle.rules.specs.declared.Standing.the-variants.{Pending, Tier1, Tier2, Tier3, Neither}
-use Rattle.rules.specs.Book.{Customer, net, netLong, onSide}
+use Rattle.rules.specs.Book.{Customer, position, net, netLong, onSide}
 
 -- "(S - price) x lots for a long net position, (price - S) x lots for a short one"
 abbrev pub gainOf : Bool → Fen → Fen → ℕ → ℤ
@@ -33,7 +33,7 @@ gainFrom long s needed (t ∷ ts) =
 
 -- "The total gain is the signed sum"; the customer's trades are held newest first
 unfoldable pub totalGain : Terms → Customer → ℤ
-totalGain terms c = gainFrom (netLong (c .position)) (terms .settlement) (net (c .position)) (c .trades)
+totalGain terms c = gainFrom (netLong (position c)) (terms .settlement) (net (position c)) (c .trades)
 
 -- "it is compared without division: total x 100,000 against rate x S x net"
 abbrev pub reaches : Terms → Position → ℤ → Rate → Bool
@@ -65,4 +65,4 @@ standingAt terms p total =
     cond (eqb (net p) 0) Neither (cond (onLockedSide terms p) (lockedStanding terms p total) (otherStanding terms p total))
 
 unfoldable pub standing : Terms → Customer → Standing
-standing terms c = standingAt terms (c .position) (totalGain terms c)
+standing terms c = standingAt terms (position c) (totalGain terms c)

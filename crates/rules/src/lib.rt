@@ -86,6 +86,8 @@ pub const LONGEST_CODE: usize = 12;
 
 pub const MOST_CUSTOMERS: usize = 256;
 
+pub const MOST_SEATS: usize = 4;
+
 pub fn lesser(a: u64, b: u64) -> u64
     ensures { λ r. ⌜ r ≡ min a b ⌝ }
 {

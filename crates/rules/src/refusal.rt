@@ -26,3 +26,5 @@ pub const NO_ROOM: u64 = 11;
 
 // A trade's price is too far from the settlement price.
 pub const ASTRAY: u64 = 12;
+
+pub const SEAT_TWICE: u64 = 13;

@@ -13,6 +13,8 @@ pub const V: u8 = b'V';
 
 pub const C: u8 = b'C';
 
+pub const I: u8 = b'I';
+
 pub const K: u8 = b'K';
 
 pub const H: u8 = b'H';
@@ -32,3 +34,5 @@ pub const R: u8 = b'R';
 pub const E: u8 = b'E';
 
 pub const O: u8 = b'O';
+
+pub const J: u8 = b'J';
