@@ -10,6 +10,7 @@ pub mod Offsets
 pub mod Balance
 pub mod Within
 pub mod Lines
+pub mod SeatsDivided
 pub mod Runs
 pub mod Framed
 pub mod Steps
@@ -23,6 +24,7 @@ pub mod Rearrange
 pub mod ReportLength
 pub mod Cut
 pub mod Traded
+pub mod Front
 pub mod Retrade
 pub mod WholeCuts
 pub mod Same

@@ -11,7 +11,7 @@ use Rattle.rules.specs.declared.Terms.{Terms}
 use Rattle.rules.specs.declared.Position.{Position}
 use Rattle.rules.specs.declared.Standing.{Standing}
 use Rattle.rules.specs.declared.Standing.the-variants.{Pending, Tier1, Tier2, Tier3, Neither}
-use Rattle.rules.specs.Book.{Customer, Accepted, judge}
+use Rattle.rules.specs.Book.{Customer, position, Accepted, judge}
 use Rattle.rules.specs.Division.{oneIf}
 use Rattle.rules.specs.Cascade.{Line, codeOf, pendingBy, lineOf, outcome}
 use Rattle.consequences.specs.Rearranged.{nobody}
@@ -46,7 +46,7 @@ module _ (terms : Terms) (cs : List Customer) (d : Distinct codeIn cs) where
       record {
         apart = record {
           distinct = distinct-map codeIn codeOf (lineOf terms) (λ c. refl) cs d;
-          others = each (λ l. isPending (l .standing) ≡ false → l .pending ≡ 0) (λ c. none-pending (lineOf terms c .standing) (c .position));
+          others = each (λ l. isPending (l .standing) ≡ false → l .pending ≡ 0) (λ c. none-pending (lineOf terms c .standing) (position c));
         };
         unset = each (λ l. l .offset ≡ 0) (λ c. refl);
       }

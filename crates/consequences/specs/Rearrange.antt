@@ -4,12 +4,12 @@
 use Prim.Native.Nat.{ℕ, _+_, _≤_}
 use mathlib.Core.Path.{_≡_, refl, ap}
 use mathlib.Core.List.{List, [], _∷_, _++_}
-use lib.ListN.{length, take, drop, length-append, take-append-drop}
+use lib.ListN.{length, length-append}
 use native.Mathlib.Omega.{arith}
 use Rattle.rules.specs.declared.Terms.{Terms}
 use Rattle.rules.specs.Division.{sumOf}
 use Rattle.rules.specs.Report.{joined}
-use Rattle.consequences.specs.Rearranged.{Parts, together, cutIn, partsOf, picked, regrouped, Below, Once, madeAt, Retraded}
+use Rattle.consequences.specs.Rearranged.{Parts, together, cutIn, partsOf, picked, regrouped, Below, Once, frontOf, tradesOf, madeAt, Retraded}
 use Rattle.rules.specs.Book.{Customer, Accepted, judge}
 use Rattle.laws.specs.Sums.{sum-one, sum-append}
 use Rattle.consequences.specs.Picks.{sum-chosen-le, all2-picked}
@@ -17,6 +17,7 @@ use Rattle.laws.specs.All2.{All2, all2-length}
 use Rattle.consequences.specs.Described.{Describes}
 use Rattle.laws.specs.Sane.{codeIn}
 use Rattle.consequences.specs.Framed.{cuts-joined}
+use Rattle.consequences.specs.Front.{front-trades}
 use Rattle.consequences.specs.Retrade.{sum-other}
 use Rattle.consequences.specs.Same.{retraded-describes}
 use Rattle.consequences.specs.DistinctPicks.{distinct-picked}
@@ -31,10 +32,10 @@ length-together p =
     omega (arith, length-append (p .terms ++ joined (λ g. g) (p .groups)) (p .end), length-append (p .terms) (joined (λ g. g) (p .groups)), length-joined (λ g. g) (p .groups))
 
 -- a group with its trades in another order is as long
-cuts-length : (g : List ℕ) → length g ≡ sumOf length (take 4 (cutIn (length g) g)) + sumOf length (drop 4 (cutIn (length g) g))
+cuts-length : (g : List ℕ) → length g ≡ sumOf length (frontOf g) + sumOf length (tradesOf g)
 cuts-length g =
     let ks = cutIn (length g) g in
-    omega (arith, ap length (cuts-joined (length g) g (omega arith)), length-joined (λ k. k) ks, ap (sumOf length) (take-append-drop 4 ks), sum-append length (take 4 ks) (drop 4 ks))
+    omega (arith, ap length (cuts-joined (length g) g (omega arith)), length-joined (λ k. k) ks, ap (sumOf length) (front-trades ks), sum-append length (frontOf g) (tradesOf g))
 
 retraded-length : (g h : List ℕ) → Retraded g h → length g ≡ length h
 retraded-length g h r = omega (arith, cuts-length g, cuts-length h, ap (sumOf length) (r .front), sum-other madeAt length _ _ (r .trades))

@@ -68,12 +68,23 @@ abbrev pub rearranged : List ℕ → List ℕ → List ℕ
 rearranged s is = regrouped s (picked [] (partsOf s .groups) is)
 
 -- Request [2]: "Demand 3 now lets a customer's own trades be rearranged too, so long as trades of equal day and minute keep their order."
--- A group's fields are C, K, H and Q, and then its trades
+-- Request [5]: "Demand 3 keeps a customer's seats in their order." A group's fields are its C and its seats', and from the first B or A on its trades
+abbrev pub isTrade : List ℕ → Bool
+isTrade f = is "B" (getD f 0 0) || is "A" (getD f 0 0)
+
+abbrev pub beforeTrades : List (List ℕ) → List (List ℕ)
+beforeTrades [] = []
+beforeTrades (f ∷ fs) = cond (isTrade f) [] (f ∷ beforeTrades fs)
+
+abbrev pub fromTrades : List (List ℕ) → List (List ℕ)
+fromTrades [] = []
+fromTrades (f ∷ fs) = cond (isTrade f) (f ∷ fs) (fromTrades fs)
+
 abbrev pub frontOf : List ℕ → List (List ℕ)
-frontOf g = take 4 (cutIn (length g) g)
+frontOf g = beforeTrades (cutIn (length g) g)
 
 abbrev pub tradesOf : List ℕ → List (List ℕ)
-tradesOf g = drop 4 (cutIn (length g) g)
+tradesOf g = fromTrades (cutIn (length g) g)
 
 abbrev pub tradeIn : Opening → Trade
 tradeIn (Made t x) = t
@@ -106,7 +117,7 @@ Once (i ∷ is) = (among i is ≡ false) × Once is
 
 -- nobody's line, where an index is none of the book's
 abbrev pub nobody : Line
-nobody = record { code = []; standing = Neither; offered = 0; pending = 0; offset = 0 }
+nobody = record { code = []; seats = []; standing = Neither; offered = 0; pending = 0; offset = 0 }
 
 -- indices of the lines, none twice, and whoever is left out is neither pending nor in a tier
 pub record Chosen (ls : List Line) (is : List ℕ) : Type 0 where

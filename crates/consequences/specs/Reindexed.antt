@@ -5,8 +5,7 @@ use Prim.Native.Nat.{ℕ}
 use mathlib.Core.Path.{_≡_, sym, ap, _∙_}
 use mathlib.Core.List.{List, [], _∷_, _++_}
 use native.Mathlib.Omega.{arith}
-use lib.ListN.{length, take, take-append-drop}
-use lib.Seq.{length-take-le, take-at, drop-at}
+use lib.ListN.{length}
 use Rattle.rules.specs.declared.Terms.{Terms}
 use Rattle.rules.specs.Division.{sumOf}
 use Rattle.rules.specs.Report.{joined}
@@ -14,12 +13,13 @@ use Rattle.rules.specs.Book.{Customer}
 use Rattle.laws.specs.Sums.{sum-append}
 use Rattle.laws.specs.All2.{All2}
 use Rattle.order.specs.Order.{Rearranged as InOtherOrder}
-use Rattle.consequences.specs.Rearranged.{cutIn, picked, frontOf, tradesOf, madeAt, Retraded}
+use Rattle.consequences.specs.Rearranged.{cutIn, picked, beforeTrades, fromTrades, frontOf, tradesOf, madeAt, Retraded}
 use Rattle.consequences.specs.Reordered.{Reordered, stampAt, reordered-same}
 use Rattle.consequences.specs.Described.{Describes}
+use Rattle.consequences.specs.Front.{front-trades, noTrade, none-before, split-append}
 use Rattle.consequences.specs.WholeCuts.{broken, cut-again}
 use Rattle.consequences.specs.Retrade.{sum-other}
-use Rattle.consequences.specs.Same.{all-whole, four-first}
+use Rattle.consequences.specs.Same.{all-whole, only-trades}
 
 -- a group with its trades in the order of some indices
 abbrev pub reindexed : List ℕ → List ℕ → List ℕ
@@ -38,28 +38,26 @@ module _ (terms : Terms) (g : List ℕ) (c : Customer) (d : Describes terms g c)
 
   whole : sumOf broken (frontOf g ++ us) ≡ 0
   whole =
-      let ks = cutIn (length g) g in
       omega (
         arith,
         sum-append broken (frontOf g) us,
         sum-append broken (frontOf g) (tradesOf g),
         sum-other madeAt broken (tradesOf g) us other,
-        ap (sumOf broken) (take-append-drop 4 ks),
+        ap (sumOf broken) (front-trades (cutIn (length g) g)),
         all-whole terms g c d,
       )
 
   new-cuts : cutIn (length (reindexed g is)) (reindexed g is) ≡ frontOf g ++ us
   new-cuts = cut-again (length (reindexed g is)) (frontOf g ++ us) whole (omega arith)
 
-  four : length (frontOf g) ≡ 4
-  four = length-take-le 4 (cutIn (length g) g) (four-first terms g c d)
+  -- the front is as it was, and behind it are trades
+  parted : (beforeTrades (frontOf g ++ us) ≡ frontOf g) × (fromTrades (frontOf g ++ us) ≡ us)
+  parted =
+      split-append (frontOf g) us (none-before (cutIn (length g) g))
+      (sym (sum-other madeAt noTrade (tradesOf g) us other) ∙ only-trades terms g c d)
 
   pub reindexed-retraded : Retraded g (reindexed g is)
-  reindexed-retraded =
-      record {
-        front = sym (ap (take 4) new-cuts ∙ take-at (frontOf g) us 4 four);
-        trades = rw (new-cuts, drop-at (frontOf g) us 4 four) other;
-      }
+  reindexed-retraded = record { front = sym (ap beforeTrades new-cuts ∙ parted .0); trades = rw (new-cuts, parted .1) other }
 
 -- some groups, each with its trades in the order of its own indices
 abbrev pub eachReindexed : List (List ℕ) → List (List ℕ) → List (List ℕ)

@@ -21,6 +21,7 @@ use Rattle.consequences.specs.Balance.{Fresh}
 -- a line before the cascade and after it
 pub record Within (before after : Line) : Type 0 where
   pub code : after .code ≡ before .code
+  pub seats : after .seats ≡ before .seats
   pub standing : after .standing ≡ before .standing
   pub pending : before .standing ≡ Pending → after .offset + after .pending ≡ before .pending
   pub offered : isPending (before .standing) ≡ false → after .offset ≤ before .offered
@@ -94,6 +95,7 @@ module _ (ls : List Line) where
     within-final h =
         record {
           code = refl;
+          seats = refl;
           standing = refl;
           pending = λ e. pending-all (ap isPending e);
           offered = λ e. omega (arith, offset-all (h e), offered-once (l .standing) (l .offered));

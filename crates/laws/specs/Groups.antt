@@ -83,7 +83,7 @@ within-code v terms (Open part c) t x o = keeps-also {P = FurtherGroup c} {S = O
   where
     go : (g : Group) → FurtherGroup c g → OfCode v g
     go Nobody h = absurd h
-    go (Open p d) h = h .code ∙ o
+    go (Open p d) h = h ∙ o
 
 within-somebody : (terms : Terms) (g : Group) (t : ℕ) (v : List ℕ) → Somebody g → Keeps AtTag Somebody (within terms g t v)
 within-somebody terms Nobody t v s = absurd s

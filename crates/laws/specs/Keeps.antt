@@ -30,6 +30,10 @@ module _ {A : Type 0} (Q : ℕ → Type 0) (P : A → Type 0) where
   must-keeps q true r h = h
   must-keeps q false r h = q
 
+  pub cond-keeps : (b : Bool) (r u : Step A) → (b ≡ true → Keeps r) → (b ≡ false → Keeps u) → Keeps (cond b r u)
+  cond-keeps true r u h k = h refl
+  cond-keeps false r u h k = k refl
+
   -- what is not refused did not meet the test
   pub refuse-keeps : (n : ℕ) (b : Bool) (r : Step A) → Q n → (b ≡ false → Keeps r) → Keeps (refuse n b r)
   refuse-keeps n true r q h = q

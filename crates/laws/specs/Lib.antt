@@ -18,5 +18,8 @@ pub mod CodeOrder
 pub mod Ranks
 pub mod ShareSum
 pub mod Recode
+pub mod Seats
+pub mod SeatWeights
+pub mod SeatFields
 pub mod Sane
 pub mod All2

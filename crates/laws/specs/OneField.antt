@@ -1,32 +1,41 @@
 -- What one field comes to, for every term and every part of a group at once. It is refused at its own tag, so not with 9; a term leads to
 -- the next, or to no customers and nobody's group; a field of a group leads on in the group of the same customer.
 -- Assumes nothing.
-use Prim.Native.Nat.{ℕ, _≤_, _<_}
+use Prim.Native.Nat.{ℕ, _<_}
 use Prim.Native.Char.{code}
 use mathlib.Core.Path.{_≡_, refl}
 use mathlib.Core.List.{List, []}
-use mathlib.Core.Bool.{false, _||_}
-use lib.Dec.{leb, eqb}
+use mathlib.Core.Bool.{false, not, _&&_, _||_}
+use lib.ListN.{length}
+use lib.Dec.{leb, ltb, eqb}
 use native.Mathlib.Omega.{arith}
 use Rattle.rules.specs.declared.Terms.{Terms}
 use Rattle.rules.specs.Refusal as refusal
 use Rattle.rules.specs.Text.{is}
-use Rattle.rules.specs.Figures.{priceForm, rateForm, heldForm, lots}
+use Rattle.rules.specs.Limits.{mostSeats}
+use Rattle.rules.specs.Codes.{isCode}
+use Rattle.rules.specs.Figures.{priceForm, rateForm, heldForm}
 use Rattle.rules.specs.Opening.{openingOf}
 use Rattle.rules.specs.Book.{
   Customer,
   overdrawn,
   astray,
+  seated,
   Stop,
   Next,
   Part,
+  DueI,
   DueK,
   DueH,
   DueQ,
+  DueSeat,
   DueTrade,
   Group,
   Nobody,
   Open,
+  seatAt,
+  sits,
+  trades,
   within,
   Term,
   DueD,
@@ -45,7 +54,7 @@ use Rattle.rules.specs.Book.{
   withDecimals,
   step,
 }
-use Rattle.laws.specs.Keeps.{Keeps, must-keeps, refuse-keeps, figure-keeps, trade-keeps, lock-keeps, places-keeps}
+use Rattle.laws.specs.Keeps.{Keeps, must-keeps, cond-keeps, refuse-keeps, figure-keeps, trade-keeps, lock-keeps, places-keeps}
 
 -- a refusal at the field's own tag: above 0, and not 9
 pub record AtTag (n : ℕ) : Type 0 where
@@ -102,29 +111,31 @@ no-Z DueL ts v = refl
 no-Z DueU ts v = refl
 no-Z DueV ts v = refl
 
--- the same customer read further: with the same code, and with no more lots than a figure can say
-pub record Further (c d : Customer) : Type 0 where
-  pub code : d .code ≡ c .code
-  pub long : c .position .long .0 ≤ 1_000_000 → d .position .long .0 ≤ 1_000_000
-  pub short : c .position .short .0 ≤ 1_000_000 → d .position .short .0 ≤ 1_000_000
-
+-- the same customer read further: with the same code
 abbrev pub FurtherGroup : Customer → Group → Type 0
 FurtherGroup c Nobody = ⊥
-FurtherGroup c (Open part d) = Further c d
+FurtherGroup c (Open part d) = d .code ≡ c .code
+
+sits-leads : (v : List ℕ) (c : Customer) → Keeps AtTag (FurtherGroup c) (sits v c)
+sits-leads v c =
+    refuse-keeps AtTag (FurtherGroup c) refusal.malformed (not (isCode v)) _ malformed (λ e.
+    refuse-keeps AtTag (FurtherGroup c) refusal.seatTwice (seated v (c .seats)) _ (record { above = omega arith; own = refl }) (λ f. refl))
+
+trades-leads : (terms : Terms) (c : Customer) (t : ℕ) (v : List ℕ) → Keeps AtTag (FurtherGroup c) (trades terms c t v)
+trades-leads terms c t v =
+    must-keeps AtTag (FurtherGroup c) misplaced (is "B" t || is "A" t) _ (trade-keeps AtTag (FurtherGroup c) (terms .decimals) (openingOf (is "B" t) v) _ comma malformed (λ x.
+    refuse-keeps AtTag (FurtherGroup c) refusal.astray (astray (terms .settlement) (x .price)) _ (record { above = omega arith; own = refl }) (λ e. refl)))
 
 pub part-leads : (terms : Terms) (part : Part) (c : Customer) (t : ℕ) (v : List ℕ) → Keeps AtTag (FurtherGroup c) (within terms (Open part c) t v)
 unfolding within
-part-leads terms DueK c t v =
-    must-keeps AtTag (FurtherGroup c) misplaced (is "K" t) _ (figure-keeps AtTag (FurtherGroup c) heldForm v _ comma malformed (λ k h.
-    record { code = refl; long = λ l. h; short = λ l. l }))
-part-leads terms DueH c t v =
-    must-keeps AtTag (FurtherGroup c) misplaced (is "H" t) _ (figure-keeps AtTag (FurtherGroup c) heldForm v _ comma malformed (λ k h.
-    record { code = refl; long = λ l. l; short = λ l. h }))
-part-leads terms DueQ c t v =
+part-leads terms DueI c t v = must-keeps AtTag (FurtherGroup c) misplaced (is "I" t) _ (sits-leads v c)
+part-leads terms (DueK s) c t v =
+    must-keeps AtTag (FurtherGroup c) misplaced (is "K" t) _ (figure-keeps AtTag (FurtherGroup c) heldForm v _ comma malformed (λ k h. refl))
+part-leads terms (DueH s) c t v =
+    must-keeps AtTag (FurtherGroup c) misplaced (is "H" t) _ (figure-keeps AtTag (FurtherGroup c) heldForm v _ comma malformed (λ k h. refl))
+part-leads terms (DueQ s) c t v =
     must-keeps AtTag (FurtherGroup c) misplaced (is "Q" t) _ (figure-keeps AtTag (FurtherGroup c) heldForm v _ comma malformed (λ q h.
-    refuse-keeps AtTag (FurtherGroup c) refusal.overdrawn (overdrawn terms (record { long = c .position .long; short = c .position .short; unfilled = lots q })) _
-    (record { above = omega arith; own = refl }) (λ e. record { code = refl; long = λ l. l; short = λ l. l })))
-part-leads terms DueTrade c t v =
-    must-keeps AtTag (FurtherGroup c) misplaced (is "B" t || is "A" t) _ (trade-keeps AtTag (FurtherGroup c) (terms .decimals) (openingOf (is "B" t) v) _ comma malformed (λ x.
-    refuse-keeps AtTag (FurtherGroup c) refusal.astray (astray (terms .settlement) (x .price)) _
-    (record { above = omega arith; own = refl }) (λ e. record { code = refl; long = λ l. l; short = λ l. l })))
+    refuse-keeps AtTag (FurtherGroup c) refusal.overdrawn (overdrawn terms (seatAt (s .code) (s .position .long .0) (s .position .short .0) q .position)) _
+    (record { above = omega arith; own = refl }) (λ e. refl)))
+part-leads terms DueSeat c t v = cond-keeps AtTag (FurtherGroup c) (is "I" t && ltb (length (c .seats)) mostSeats) _ _ (λ e. sits-leads v c) (λ e. trades-leads terms c t v)
+part-leads terms DueTrade c t v = trades-leads terms c t v

@@ -12,9 +12,9 @@ use Rattle.rules.specs.Cascade.{Line, Outcome, codeOf, pendingOf, offeredIn, qu
 use Rattle.laws.specs.Sums.{sum-map}
 use Rattle.laws.specs.Division.{share-along}
 
--- a line with a key for its code
+-- a line with a key for its code, and without its seats, which the cascade does not look at
 abbrev pub recode : (List ℕ → ℕ) → Line → Line
-recode key l = record { code = key (l .code) ∷ []; standing = l .standing; offered = l .offered; pending = l .pending; offset = l .offset }
+recode key l = record { code = key (l .code) ∷ []; seats = []; standing = l .standing; offered = l .offered; pending = l .pending; offset = l .offset }
 
 -- the keys of some lines are in order as their codes are
 abbrev pub InOrder : (List ℕ → ℕ) → List Line → Type 0

@@ -1,10 +1,9 @@
 -- What is true of every book: a refusal has a number above 0. And of the customers of every accepted one: there are at most 256, their codes are codes and distinct, and no position is above
--- the most lots that a figure can say.
+-- four times the most lots that a figure can say, since no customer has more than four seats.
 -- Assumes nothing.
 use Prim.Native.Nat.{ℕ, _+_, _≤_, _<_}
 use mathlib.Core.Path.{_≡_, refl, sym, ap, subst, _∙_}
-use mathlib.Core.Logic.{⊎-elim}
-use mathlib.Core.List.{List, [], _∷_, _++_, List·Memᴰ·not-nil, List·Memᴰ·append-cases, List·Memᴰ·eq-of-singleton}
+use mathlib.Core.List.{List, [], _∷_, _++_}
 use mathlib.Core.Bool.{Bool, true, false, cond, not}
 use native.Mathlib.Omega.{arith}
 use lib.ListN.{length, length-append}
@@ -12,12 +11,14 @@ use lib.Dec.{leb, ltb}
 use borrow.Author.Tests.{leb-false}
 use Rattle.rules.specs.declared.Terms.{Terms}
 use Rattle.rules.specs.Text.{is}
-use Rattle.rules.specs.Codes.{isCode, same}
+use Rattle.rules.specs.Codes.{isCode}
 use Rattle.rules.specs.Refusal as refusal
 use Rattle.rules.specs.Limits.{longestBook, mostCustomers}
 use Rattle.rules.specs.Fields.{Field, Whole, Cut, fieldsOf}
 use Rattle.rules.specs.Book.{
+  Seat,
   Customer,
+  position,
   uncovered,
   given,
   Step,
@@ -48,14 +49,20 @@ use Rattle.rules.specs.Book.{
   judge,
 }
 use Rattle.laws.specs.ShareSum.{Distinct}
-use Rattle.laws.specs.ByTest.{not-either}
+use Rattle.laws.specs.ByTest.{not-not}
 use Rattle.laws.specs.Keeps.{Keeps, must-keeps, refuse-keeps, keeps-also}
-use Rattle.laws.specs.OneField.{EarlyStage, term-leads, FurtherGroup, part-leads}
+use Rattle.laws.specs.OneField.{AtTag, EarlyStage, term-leads, FurtherGroup, part-leads}
+use Rattle.laws.specs.Seats.{SaneSeats, sum-seats, distinct-more, SaneGroup, within-seats, none-sane}
 
 pub record Sane (c : Customer) : Type 0 where
   pub code : isCode (c .code) ≡ true
-  pub long : c .position .long .0 ≤ 1_000_000
-  pub short : c .position .short .0 ≤ 1_000_000
+  pub seats : SaneSeats (c .seats)
+
+pub sane-long : {c : Customer} → Sane c → position c .long .0 ≤ 4_000_000
+sane-long {c} h = sum-seats (λ (s : Seat). s .position .long .0) (λ s k. k .long) (c .seats) (h .seats)
+
+pub sane-short : {c : Customer} → Sane c → position c .short .0 ≤ 4_000_000
+sane-short {c} h = sum-seats (λ (s : Seat). s .position .short .0) (λ s k. k .short) (c .seats) (h .seats)
 
 abbrev pub AllSane : List Customer → Type 0
 AllSane [] = Unit
@@ -72,43 +79,30 @@ codeIn c = c .code
 abbrev Sound : List Customer → Type 0
 Sound cs = AllSane cs × Distinct codeIn cs
 
--- a code that was not given before
-distinct-more : (cs : List Customer) (c : Customer) → Distinct codeIn cs → given (c .code) cs ≡ false → Distinct codeIn (cs ++ c ∷ [])
-distinct-more [] c d h = ((λ b m. absurd (List·Memᴰ·not-nil m)), tt)
-distinct-more (b ∷ cs) c (d, ds) h =
-    let (p, q) = not-either (same (b .code) (c .code)) (given (c .code) cs) h in (
-      (λ x m. ⊎-elim (λ n. d x n) (λ n. ap (λ (y : Customer). same (b .code) (y .code)) (List·Memᴰ·eq-of-singleton n) ∙ p) (List·Memᴰ·append-cases cs m)),
-      distinct-more cs c ds q,
-    )
-
 -- a customer that is being read, the next of fewer than 256, with a code of its own
 record Member (cs : List Customer) (c : Customer) : Type 0 where
-  sane : Sane c
+  code : isCode (c .code) ≡ true
   room : length cs < mostCustomers
   new : given (c .code) cs ≡ false
 
 abbrev MemberIn : List Customer → Group → Type 0
 MemberIn cs Nobody = length cs ≤ mostCustomers
-MemberIn cs (Open part c) = Member cs c
+MemberIn cs (Open part c) = Member cs c × SaneGroup (Open part c)
 
 -- and no refusal has the number of an acceptance
 abbrev Above : ℕ → Type 0
 Above n = 0 < n
 
--- a step within a group leads to a group of the same customer
+-- a step within a group leads to a group of the same customer, with seats that are as they should be
 within-sane : (terms : Terms) (cs : List Customer) (g : Group) (t : ℕ) (v : List ℕ) → MemberIn cs g → Keeps Above (MemberIn cs) (within terms g t v)
 unfolding within
 within-sane terms cs Nobody t v m = omega arith
-within-sane terms cs (Open part c) t v m = keeps-also {P = FurtherGroup c} {S = MemberIn cs} (λ n h. h .above) go (within terms (Open part c) t v) (part-leads terms part c t v)
+within-sane terms cs (Open part c) t v (m, k) = go (within terms (Open part c) t v) (part-leads terms part c t v) (within-seats terms (Open part c) t v k)
   where
-    go : (g : Group) → FurtherGroup c g → MemberIn cs g
-    go Nobody h = absurd h
-    go (Open p d) h =
-        record {
-          sane = record { code = ap isCode (h .code) ∙ m .sane .code; long = h .long (m .sane .long); short = h .short (m .sane .short) };
-          room = m .room;
-          new = ap (λ (u : List ℕ). given u cs) (h .code) ∙ m .new;
-        }
+    go : (r : Step Group) → Keeps AtTag (FurtherGroup c) r → Keeps (λ n. Unit) SaneGroup r → Keeps Above (MemberIn cs) r
+    go (Stop n) h j = h .above
+    go (Next Nobody) h j = absurd h
+    go (Next (Open p d)) h j = (record { code = ap isCode h ∙ m .code; room = m .room; new = ap (λ (u : List ℕ). given u cs) h ∙ m .new }, j)
 
 pub record Customers (cs : List Customer) : Type 0 where
   pub all : AllSane cs
@@ -124,20 +118,20 @@ SaneStage (Ended terms cs) = Customers cs
 closed-sane : (cs : List Customer) (g : Group) (next : List Customer → Step Stage) → Sound cs → MemberIn cs g → ((ds : List Customer) → Customers ds → Keeps Above SaneStage (next ds)) →
     Keeps Above SaneStage (closed cs g next)
 closed-sane cs Nobody next a m h = h cs (record { all = a .0; distinct = a .1; few = m })
-closed-sane cs (Open part c) next a m h =
+closed-sane cs (Open part c) next a (m, k) h =
     must-keeps Above SaneStage (omega arith) (mayEnd part) _ (refuse-keeps Above SaneStage refusal.uncovered (uncovered c) _ (omega arith) (λ e.
-    h (cs ++ c ∷ []) (record { all = sane-more cs c (a .0) (m .sane); distinct = distinct-more cs c (a .1) (m .new); few = simp length-append (omega (arith, m .room)) })))
-
-not-not : (b : Bool) → not b ≡ false → b ≡ true
-not-not true h = refl
-not-not false h = sym h
+    h (cs ++ c ∷ []) (record {
+      all = sane-more cs c (a .0) (record { code = m .code; seats = k .0 });
+      distinct = distinct-more codeIn cs c (a .1) (m .new);
+      few = simp length-append (omega (arith, m .room));
+    })))
 
 opens-sane : (terms : Terms) (v : List ℕ) (cs : List Customer) → Customers cs → Keeps Above SaneStage (opens terms v cs)
 opens-sane terms v cs k =
     refuse-keeps Above SaneStage refusal.tooMany (leb mostCustomers (length cs)) _ (omega arith) (λ few.
     refuse-keeps Above SaneStage refusal.malformed (not (isCode v)) _ (omega arith) (λ good.
     refuse-keeps Above SaneStage refusal.givenBefore (given v cs) _ (omega arith) (λ new.
-    ((k .all, k .distinct), record { sane = record { code = not-not (isCode v) good; long = omega arith; short = omega arith }; room = omega (arith, leb-false); new = new }))))
+    ((k .all, k .distinct), (record { code = not-not (isCode v) good; room = omega (arith, leb-false); new = new }, (none-sane, refl))))))
 
 ends-sane : (terms : Terms) (v : List ℕ) (cs : List Customer) → Customers cs → Keeps Above SaneStage (ends terms v cs)
 ends-sane terms v cs k = refuse-keeps Above SaneStage refusal.malformed (ltb 0 (length v)) _ (omega arith) (λ e. k)

@@ -10,9 +10,8 @@ use lib.Dec.{eqb}
 use lib.IntN.{ℤ, pos}
 use Rattle.rules.specs.declared.Fen.{Fen}
 use Rattle.rules.specs.declared.Terms.{Terms}
-use Rattle.rules.specs.declared.Position.{Position}
 use Rattle.rules.specs.declared.Trade.{Trade}
-use Rattle.rules.specs.Book.{Customer, onSide}
+use Rattle.rules.specs.Book.{Seat, Customer, onSide}
 use Rattle.rules.specs.Standing.{gainOf, gainFrom, totalGain, standing}
 use Rattle.laws.specs.ByTest.{by-test}
 use Rattle.laws.specs.Gains.{lotsOn, gain-none, counted-is}
@@ -70,12 +69,12 @@ rearranged-held ts us r =
     reading-arranged ts [] ∙ rearranged-same when (inFront ts []) (inFront us []) (front-same ts us r) ∙ sym (reading-arranged us [])
 
 -- the same customer, with the same gain and standing
-module _ (code : List ℕ) (p : Position) (ts us : List Trade) (r : Rearranged when ts us) where
+module _ (code : List ℕ) (seats : List Seat) (ts us : List Trade) (r : Rearranged when ts us) where
   abbrev pub having : List Trade → Customer
-  having l = record { code = code; position = p; trades = reading l [] }
+  having l = record { code = code; seats = seats; trades = reading l [] }
 
   pub rearranged-customer : having ts ≡ having us
-  rearranged-customer = ap (λ (l : List Trade). record { code = code; position = p; trades = l }) (rearranged-held ts us r)
+  rearranged-customer = ap (λ (l : List Trade). record { code = code; seats = seats; trades = l }) (rearranged-held ts us r)
 
   pub rearranged-gain : (terms : Terms) → totalGain terms (having ts) ≡ totalGain terms (having us)
   rearranged-gain terms = ap (totalGain terms) rearranged-customer
