@@ -2,6 +2,7 @@
 -- Assumes nothing.
 use Prim.Native.Nat.{ℕ, _≤_}
 use mathlib.Core.Path.{_≡_, refl, sym, ap, subst, _∙_}
+use mathlib.Core.Bool.{Bool, not}
 use mathlib.Core.List.{List}
 use native.Mathlib.Omega.{arith}
 use lib.ListN.{length}
@@ -41,6 +42,7 @@ module _ (s keys starts standings stakes : List ℕ) (r : Roll) (e : Rolled s (j
     pub accepted : judge s ≡ Accepted terms customers
     pub told : r .refusal ≡ noRefusal
     pub held : Held s terms customers keys starts standings stakes (r .count)
+    pub locked : r .down ≡ terms .down
 
   pub accepts : r .refusal .number ≡ 0 → Accepts
   accepts z = go (judge s) refl e
@@ -48,7 +50,7 @@ module _ (s keys starts standings stakes : List ℕ) (r : Roll) (e : Rolled s (j
       go : (v : Verdict) → judge s ≡ v → Rolled s v keys starts standings stakes r → Accepts
       go (Refused n place) j h =
           absurd (let q : r .refusal .number ≡ n = ap (λ (x : Roll). x .refusal .number) h in let p = refused-above s n place j in omega arith)
-      go (Accepted terms cs) j h = record { terms = terms; customers = cs; accepted = j; told = h .0; held = h .1 }
+      go (Accepted terms cs) j h = record { terms = terms; customers = cs; accepted = j; told = h .0; held = h .1; locked = h .2 }
 
   module _ (a : Accepts) (room : Room keys starts standings stakes) where
     pub steady : Steady 0 (columns keys standings stakes (r .count)) atFirst
@@ -56,21 +58,21 @@ module _ (s keys starts standings stakes : List ℕ) (r : Roll) (e : Rolled s (j
 
     -- what the cascade leaves, with the roll's refusal
     abbrev done : Closed → Refusal → Worked
-    done d f = record { refusal = f; count = r .count; offset = d .offset; total = d .total; residue = d .residue }
+    done d f = record { refusal = f; count = r .count; down = r .down; offset = d .offset; total = d .total; residue = d .residue }
 
     came : (d : Closed) → d ≡ closedOf (columns keys standings stakes (r .count)) → (f : Refusal) → f ≡ r .refusal →
         Came s (Accepted (a .terms) (a .customers)) keys starts standings stakes (done d f)
     came d x f y =
         let k = accepted-sane s (a .terms) (a .customers) (a .accepted) in
         let t = y ∙ a .told in
+        let z = closedOf (columns keys standings stakes (r .count)) in
         rw x (
-          (λ j. done (closedOf (columns keys standings stakes (r .count))) (t j)),
+          (λ j. record { refusal = t j; count = r .count; down = a .locked j; offset = z .offset; total = z .total; residue = z .residue }),
           record {
             counted = a .held .counted;
             before = lines-are (a .terms) k (a .held);
             after = lines-shown (a .terms) k (a .held);
-            placed = placed (a .terms) k (a .held) room;
-            stood = omega (arith, steady .stood);
+            placed = subst (λ (b : Bool). Placed s starts standings (closedOf (columns keys standings stakes (r .count)) .offset) (r .count) (not b)) (sym (a .locked)) (placed (a .terms) k (a .held) room);
             reports = report-is (a .terms) k (a .held);
             lists = listing-is (a .terms) k (a .held);
             short = listing-room (a .terms) k (a .held) room;
@@ -103,8 +105,7 @@ module _ (s keys starts standings stakes : List ℕ) (w : Worked) (e : Came s (j
 
   -- number 0: the columns show the outcome
   pub record Goes : Type 0 where
-    pub placed : Placed s starts (w .offset) (w .count)
-    pub stood : w .count ≤ length standings
+    pub placed : Placed s starts standings (w .offset) (w .count) (not (w .down))
     pub short : length (listingBytes (sheetOf s starts standings w)) ≤ listingRoom
     pub answers : (room : ℕ) → answer s room ≡ fitted room (reportBytes (sheetOf s starts standings w))
     pub lists : listing s ≡ listingBytes (sheetOf s starts standings w)
@@ -121,7 +122,6 @@ module _ (s keys starts standings stakes : List ℕ) (w : Worked) (e : Came s (j
           let h = f .1 in
           record {
             placed = h .placed;
-            stood = h .stood;
             short = h .short;
             answers = λ room. ap (answerOf room) j ∙ ap (fitted room) (sym (h .reports));
             lists = ap listingOf j ∙ sym (h .lists);

@@ -1,47 +1,54 @@
--- The columns after tier 3 show the outcome's lines: each customer's code in the book, its standing and its offset. So their report and
+-- The columns after tier 3 show the outcome's lines: each customer's code and seats in the book, its standing and its offset. So their report and
 -- their listing are document 01's.
 -- Assumes nothing.
-use Prim.Native.Nat.{ℕ, _-_, _<_}
-use mathlib.Core.Path.{_≡_, refl, sym, ap, ap₂, _∙_}
+use Prim.Native.Nat.{ℕ, _+_, _-_, _≤_, _<_}
+use mathlib.Core.Path.{_≡_, refl, sym, ap, ap₂, subst, _∙_}
+use mathlib.Core.Bool.{not}
 use mathlib.Core.List.{List, [], _∷_, _++_, map, map-map}
 use native.Mathlib.Omega.{arith}
 use lib.ListN.{length, getD, take, drop, length-map, List·getD-map}
 use Rattle.rules.specs.declared.Terms.{Terms}
+use Rattle.rules.specs.declared.Standing.{Standing}
 use Rattle.rules.specs.declared.Standing.the-variants.{Neither}
-use Rattle.rules.specs.Book.{Customer}
+use Rattle.rules.specs.Limits.{mostSeats}
+use Rattle.rules.specs.Fields.{fieldsOf}
+use Rattle.rules.specs.Book.{Seat, Customer, added, position, netLong}
+use Rattle.rules.specs.Standing.{standing}
+use Rattle.rules.specs.Seats.{seatWeight, weightIn}
 use Rattle.rules.specs.Division.{sumOf}
-use Rattle.rules.specs.Cascade.{Line, Outcome, lineOf, codeOf, pendingOf, after, tier, cascade, outcome}
+use Rattle.rules.specs.Cascade.{Line, Outcome, lineOf, codeOf, pendingOf, after, outcome}
 use Rattle.rules.specs.Report.{joined, reported, report, printed, listed}
 use Rattle.laws.specs.Sums.{upTo, map-upTo, getD-upTo}
-use Rattle.laws.specs.Indices.{map-below}
+use Rattle.laws.specs.Indices.{map-below, getD-in}
 use Rattle.laws.specs.Keys.{keyOf}
 use Rattle.laws.specs.Recode.{recode, recodeAll}
 use Rattle.laws.specs.Sane.{Customers}
+use Rattle.laws.specs.Seats.{SaneSeats}
+use Rattle.laws.specs.SeatFields.{seatsIn}
+use Rattle.laws.specs.SeatWeights.{weights-cover}
+use Rattle.seats.specs.Dealt.{seatsAt}
 use Rattle.cascade.specs.declared.Cascade.{Cascade}
-use Rattle.cascade.specs.Columns.{Columns, columns, linesOf}
+use Rattle.cascade.specs.Columns.{standingOf, Columns, columns, linesOf}
 use Rattle.cascade.specs.Columns.{lineAt as stateLine}
 use Rattle.cascade.specs.State.{afterAll}
 use Rattle.cascade.specs.After.{outcomeOf, run-recoded, steady-all}
+use Rattle.cascade.specs.Capped.{final, final-at, final-length, capped}
 use Rattle.roll.specs.Roll.{Held, Room}
 use Rattle.writing.specs.Shown.{shown}
 use Rattle.entries.specs.Entries.{reportHead, reported-shown, report-head}
 use Rattle.printing.specs.Printed.{listedHead, printed-shown, listed-head}
-use Rattle.report.specs.Sheet.{codeAt, Sheet, sheet, lineAt, sheetBytes, reportBytes, listingBytes, Placed}
+use Rattle.report.specs.Sheet.{sizeAt, lineFrom, Sheet, sheet, lineAt, sheetBytes, reportBytes, listingBytes, Seated, Placed}
 use Rattle.allotment.specs.Worked.{atFirst}
-use Rattle.allotment.proofs.Start.{nobody, at, in-order, lines-are, few, start-steady, code-in, code-short}
+use Rattle.allotment.proofs.Start.{nobody, at, sane-at, in-order, lines-are, few, standing-at, start-steady, code-in, code-short}
+use Rattle.allotment.proofs.Sides.{side-is}
 
 -- lines that look the same one by one are the same bytes
 joined-map : (f : Line → List ℕ) (l : List Line) → joined f l ≡ joined (λ v. v) (map f l)
 joined-map f [] = refl
 joined-map f (x ∷ l) = ap (λ (v : List ℕ). f x ++ v) (joined-map f l)
 
--- a tier keeps the codes
-codes-kept : (k : ℕ) (ls : List Line) → map codeOf (tier k ls) ≡ map codeOf ls
-unfolding after
-codes-kept k ls = map-map codeOf (after k ls) ls
-
 abbrev noLine : Line
-noLine = record { code = []; standing = Neither; offered = 0; pending = 0; offset = 0 }
+noLine = record { code = []; seats = []; standing = Neither; offered = 0; pending = 0; offset = 0 }
 
 module _ {book : List ℕ} (terms : Terms) {cs : List Customer} {keys starts standings stakes : List ℕ} {count : ℕ}
     (k : Customers cs) (h : Held book terms cs keys starts standings stakes count) where
@@ -70,12 +77,9 @@ module _ {book : List ℕ} (terms : Terms) {cs : List Customer} {keys starts sta
   abbrev lines : List Line
   lines = outcome terms cs .lines
 
-  codes-are : map codeOf lines ≡ map (λ c. c .code) cs
-  unfolding outcome cascade lineOf
-  codes-are = codes-kept 3 (tier 2 (tier 1 ls)) ∙ codes-kept 2 (tier 1 ls) ∙ codes-kept 1 ls ∙ map-map codeOf (lineOf terms) cs
-
   count-is : length lines ≡ count
-  count-is = sym (length-map lines codeOf) ∙ ap length codes-are ∙ length-map cs (λ c. c .code) ∙ sym (h .counted)
+  unfolding outcome
+  count-is = final-length ls ∙ length-map cs (lineOf terms) ∙ sym (h .counted)
 
   module _ (i : ℕ) (l : i < count) where
     abbrev line : Line
@@ -89,21 +93,70 @@ module _ {book : List ℕ} (terms : Terms) {cs : List Customer} {keys starts sta
         ∙ ap (λ (o : Outcome). getD (o .lines) i (recode keyOf noLine)) same
         ∙ getD-upTo (stateLine c (done .offset)) (recode keyOf noLine) count i l
 
-    code-is : line .code ≡ at cs i .code
-    code-is =
-        sym (List·getD-map codeOf lines i noLine) ∙ ap (λ (l : List (List ℕ)). getD l i []) codes-are
-        ∙ List·getD-map (λ c. c .code) cs i nobody
+    -- it is its customer's, after the three tiers
+    line-is : line ≡ final ls (lineOf terms (at cs i))
+    unfolding outcome
+    line-is =
+        let below : i < length cs = omega (arith, h .counted) in
+        final-at ls i noLine (omega (arith, length-map cs (lineOf terms))) ∙ ap (final ls) (getD-in (lineOf terms) cs i nobody noLine below)
 
-    -- and its code stands in the book
-    book-is : codeAt book starts i ≡ at cs i .code
-    book-is = let z = code-in terms k h i l in ap (λ (m : ℕ). take m (drop (getD starts i 0) book)) (z .size) ∙ z .bytes
+    abbrev start : ℕ
+    start = getD starts i 0
 
-    shown-is : shown (line .code) (line .standing) (line .offset) ≡ lineAt page i
+    -- its code stands in the book, and its seats behind it
+    book-is : take (sizeAt book start) (drop start book) ≡ at cs i .code
+    book-is = let z = code-in terms k h i l in ap (λ (m : ℕ). take m (drop start book)) (z .size) ∙ z .bytes
+
+    seats-is : seatsAt book (start + sizeAt book start) ≡ at cs i .seats
+    unfolding seatsAt
+    seats-is = let z = code-in terms k h i l in ap (λ (m : ℕ). seatsIn mostSeats (fieldsOf (drop (start + m) book))) (z .size) ∙ z .seats
+
+    shown-is : shown (line .code) (line .seats) (line .standing) (line .offset) ≡ lineAt page i
+    unfolding after lineOf
     shown-is =
-        let c = code-is ∙ sym book-is in
-        λ j. shown (c j) (row-is j .standing) (row-is j .offset)
+        let c = ap codeOf line-is ∙ sym book-is in
+        let s = ap (λ (x : Line). x .seats) line-is ∙ sym seats-is in
+        λ j. shown (c j) (s j) (row-is j .standing) (row-is j .offset)
 
-  joined-shown : (f : Line → List ℕ) → ((l : Line) → f l ≡ f (shown (l .code) (l .standing) (l .offset))) →
+    -- nobody's offset is above what its seats weigh
+    abbrev owns : Standing
+    owns = standingOf (getD standings i 0)
+
+    side : weightIn (lineFrom book start owns (getD (done .offset) i 0)) ≡ seatWeight owns (not (terms .down))
+    side =
+        ap₂ (λ (s : Standing) (seats : List Seat). seatWeight s (netLong (added seats))) (standing-at terms k h i l) seats-is
+        ∙ side-is terms (at cs i)
+        ∙ ap (λ (s : Standing). seatWeight s (not (terms .down))) (sym (standing-at terms k h i l))
+
+    most : getD (done .offset) i 0 ≤ sumOf (seatWeight owns (not (terms .down))) (seatsAt book (start + sizeAt book start))
+    unfolding lineOf
+    most =
+        let c = at cs i in
+        let s = standing terms c in
+        let weights : sumOf (seatWeight owns (not (terms .down))) (seatsAt book (start + sizeAt book start)) ≡ sumOf (seatWeight s (netLong (position c))) (c .seats) =
+        ap₂ (λ (t : Standing) (seats : List Seat). sumOf (seatWeight t (not (terms .down))) seats) (standing-at terms k h i l) seats-is
+        ∙ ap (λ (w : Seat → ℕ). sumOf w (c .seats)) (sym (side-is terms c)) in
+        omega (
+          arith,
+          weights,
+          weights-cover s (c .seats),
+          capped ls (lineOf terms c),
+          ap (λ (x : Line). x .offset) line-is,
+          ap (λ (x : Line). x .offset) row-is,
+        )
+
+    pub seated : Seated book start owns (getD (done .offset) i 0) (not (terms .down))
+    seated =
+        let z = code-in terms k h i l in
+        record {
+          behind = z .behind;
+          short = omega (arith, z .size, code-short terms k h i l);
+          inside = omega (arith, z .size, z .inside);
+          due = record { sane = subst SaneSeats (sym seats-is) (sane-at cs (k .all) i (omega (arith, h .counted)) .seats); most = most };
+          side = side;
+        }
+
+  joined-shown : (f : Line → List ℕ) → ((l : Line) → f l ≡ f (shown (l .code) (l .seats) (l .standing) (l .offset))) →
       joined f lines ≡ joined f (map (lineAt page) (upTo count))
   joined-shown f e =
       joined-map f lines
@@ -129,17 +182,12 @@ module _ {book : List ℕ} (terms : Terms) {cs : List Customer} {keys starts sta
   unfolding sheetBytes
   listing-is = sym (listed-head (outcome terms cs) ∙ ap₂ _++_ (ap₂ listedHead total-is residue-is) (joined-shown printed printed-shown))
 
-  pub placed : Room keys starts standings stakes → Placed book starts (done .offset) count
+  pub placed : Room keys starts standings stakes → Placed book starts standings (done .offset) count (not (terms .down))
   placed r =
       record {
         few = few terms k h;
         started = omega (arith, few terms k h, r .for-starts);
+        stood = omega (arith, few terms k h, r .for-standings);
         wide = steady-all c atFirst (start-steady terms k h r) .wide;
-        code = λ i l.
-            let z = code-in terms k h i l in
-            record {
-              behind = z .behind;
-              short = omega (arith, z .size, code-short terms k h i l);
-              inside = omega (arith, z .size, z .inside);
-            };
+        seated = seated;
       }

@@ -6,7 +6,7 @@ use mathlib.Core.Path.{_≡_, sym, ap, _∙_}
 use mathlib.Core.List.{List, [], _∷_, _++_, map}
 use native.Mathlib.Omega.{arith}
 use native.Mathlib.Nat.{le-refl}
-use lib.ListN.{length, getD, length-append, length-take}
+use lib.ListN.{length, getD, take, drop, length-append, length-take}
 use Rattle.rules.specs.declared.Terms.{Terms}
 use Rattle.rules.specs.Limits.{longestCode}
 use Rattle.rules.specs.Book.{Customer}
@@ -22,10 +22,10 @@ use Rattle.cascade.specs.After.{steady-all, pending-le}
 use Rattle.roll.specs.Roll.{Held, Room}
 use Rattle.writing.specs.Shown.{joined-append}
 use Rattle.printing.specs.Printed.{printed-length, listed-head-length}
-use Rattle.report.specs.Sheet.{codeAt, lineAt, sheetBytes, listingBytes}
+use Rattle.report.specs.Sheet.{sizeAt, lineAt, sheetBytes, listingBytes}
 use Rattle.allotment.specs.Worked.{listingRoom, atFirst}
 use Rattle.allotment.proofs.Start.{start-steady}
-use Rattle.allotment.proofs.Shown.{page, placed}
+use Rattle.allotment.proofs.Shown.{page, seated}
 
 -- n lines of at most b bytes
 joined-most : (f : Line → List ℕ) (g : ℕ → Line) (b n : ℕ) → ((i : ℕ) → i < n → length (f (g i)) ≤ b) → length (joined f (map g (upTo n))) ≤ b * n
@@ -49,9 +49,9 @@ module _ {book : List ℕ} (terms : Terms) {cs : List Customer} {keys starts sta
 
   line-most : (i : ℕ) → i < count → length (printed (lineAt (page terms k h) i)) ≤ 26
   line-most i l =
-      let p = placed terms k h r .code i l in
+      let p = seated terms k h i l in
       let d : length (digits (getD (afterAll c atFirst .offset) i 0)) ≤ 10 = digits-length-10 _ (omega (arith, steady .offset i l)) in
-      let n : length (codeAt book starts i) ≤ longestCode = simp length-take (omega (arith, p .short)) in
+      let n : length (take (sizeAt book (getD starts i 0)) (drop (getD starts i 0) book)) ≤ longestCode = simp length-take (omega (arith, p .short)) in
       omega (arith, printed-length (lineAt (page terms k h) i))
 
   pub listing-room : length (listingBytes (page terms k h)) ≤ listingRoom

@@ -14,9 +14,8 @@ use Rattle.rules.specs.declared.Position.{Position}
 use Rattle.rules.specs.declared.Standing.{Standing}
 use Rattle.rules.specs.declared.Standing.the-variants.{Pending, Tier1, Tier2, Tier3, Neither}
 use Rattle.rules.specs.Codes.{isCode}
-use Rattle.rules.specs.Figures.{lots}
 use Rattle.rules.specs.Limits.{mostCustomers, longestCode}
-use Rattle.rules.specs.Book.{Customer}
+use Rattle.rules.specs.Book.{Customer, position, begun}
 use Rattle.rules.specs.Standing.{standing}
 use Rattle.rules.specs.Cascade.{Line, lineOf, offeredBy, pendingBy}
 use Rattle.laws.specs.CodeLength.{code-length}
@@ -25,7 +24,7 @@ use Rattle.laws.specs.Indices.{map-below}
 use Rattle.laws.specs.Keys.{keyOf, key-smaller}
 use Rattle.laws.specs.Recode.{recode, InOrder}
 use Rattle.laws.specs.Indices.{getD-in}
-use Rattle.laws.specs.Sane.{Sane, AllSane, Customers}
+use Rattle.laws.specs.Sane.{Sane, AllSane, Customers, sane-long, sane-short}
 use Rattle.laws.specs.All2.{all2-at}
 use Rattle.cascade.specs.Columns.{standingOf, offeredAs, pendingAs, Columns, columns, lineAt, linesOf}
 use Rattle.cascade.specs.State.{Steady}
@@ -34,7 +33,7 @@ use Rattle.allotment.specs.Worked.{atFirst}
 
 -- nobody at all, for places past the last customer
 abbrev pub nobody : Customer
-nobody = record { code = []; position = record { long = lots 0; short = lots 0; unfilled = lots 0 }; trades = [] }
+nobody = begun []
 
 abbrev pub at : List Customer → ℕ → Customer
 at cs i = getD cs i nobody
@@ -66,11 +65,11 @@ pending-back Tier2 p = refl
 pending-back Tier3 p = refl
 pending-back Neither p = refl
 
-stake-le : (s : Standing) {c : Customer} → Sane c → stakeAs s (offeredBy s (c .position)) (pendingBy s (c .position)) ≤ 4_000_000
-stake-le Pending w = omega (arith, w .long, w .short)
-stake-le Tier1 w = omega (arith, w .long, w .short)
-stake-le Tier2 w = omega (arith, w .long, w .short)
-stake-le Tier3 w = omega (arith, w .long, w .short)
+stake-le : (s : Standing) {c : Customer} → Sane c → stakeAs s (offeredBy s (position c)) (pendingBy s (position c)) ≤ 4_000_000
+stake-le Pending w = omega (arith, sane-long w, sane-short w)
+stake-le Tier1 w = omega (arith, sane-long w, sane-short w)
+stake-le Tier2 w = omega (arith, sane-long w, sane-short w)
+stake-le Tier3 w = omega (arith, sane-long w, sane-short w)
 stake-le Neither w = omega arith
 
 -- a place of a column
@@ -100,7 +99,7 @@ module _ (terms : Terms) where
     pub few : count ≤ mostCustomers
     few = omega (arith, h .counted, k .few)
 
-    standing-at : (i : ℕ) → i < count → standingOf (getD standings i 0) ≡ standing terms (at cs i)
+    pub standing-at : (i : ℕ) → i < count → standingOf (getD standings i 0) ≡ standing terms (at cs i)
     unfolding standingIn
     standing-at i l = ap standingOf (column-at (standingIn terms) cs standings (h .counted) (h .stood) i l) ∙ standing-back (standing terms (at cs i))
 
@@ -117,6 +116,7 @@ module _ (terms : Terms) where
         let z = zero-at i (omega (arith, few)) in
         (λ j. record {
           code = e j ∷ [];
+          seats = [];
           standing = s j;
           offered = offeredAs (s j) (t j);
           pending = pendingAs (s j) (t j) - z j;
@@ -124,9 +124,10 @@ module _ (terms : Terms) where
         })
         ∙ (λ j. record {
           code = keyOf (c .code) ∷ [];
+          seats = [];
           standing = standing terms c;
-          offered = offered-back (standing terms c) (c .position) j;
-          pending = (sub-zero _ ∙ pending-back (standing terms c) (c .position)) j;
+          offered = offered-back (standing terms c) (position c) j;
+          pending = (sub-zero _ ∙ pending-back (standing terms c) (position c)) j;
           offset = 0;
         })
 

@@ -2,6 +2,7 @@
 -- Assumes nothing.
 use Prim.Native.Nat.{ℕ, _-_, _≤_}
 use mathlib.Core.Path.{_≡_}
+use mathlib.Core.Bool.{Bool, false, not}
 use mathlib.Core.List.{List, map}
 use lib.ListN.{length, replicate}
 use Rattle.rules.specs.declared.Terms.{Terms}
@@ -40,14 +41,14 @@ closedOf c =
       residue = sumOf pendingOf (linesOf c (atFirst .offset)) - afterAll c atFirst .total;
     }
 
--- what is returned of the columns of so many customers, and of a refused book
-abbrev pub workedIn : Columns → Worked
-workedIn c =
+-- what is returned of the columns of so many customers in a book that is locked so, and of a refused book
+abbrev pub workedIn : Bool → Columns → Worked
+workedIn down c =
     let d = closedOf c in
-    record { refusal = noRefusal; count = c .count; offset = d .offset; total = d .total; residue = d .residue }
+    record { refusal = noRefusal; count = c .count; down = down; offset = d .offset; total = d .total; residue = d .residue }
 
 abbrev pub workedNot : Refusal → Worked
-workedNot f = record { refusal = f; count = 0; offset = atFirst .offset; total = 0; residue = 0 }
+workedNot f = record { refusal = f; count = 0; down = false; offset = atFirst .offset; total = 0; residue = 0 }
 
 abbrev pub sheetOf : List ℕ → List ℕ → List ℕ → Worked → Sheet
 sheetOf book starts standings r = sheet book starts standings (r .offset) (r .count) (r .total) (r .residue)
@@ -57,8 +58,7 @@ pub record Shows (book : List ℕ) (terms : Terms) (cs : List Customer) (keys st
   pub counted : r .count ≡ length cs
   pub before : linesOf (columns keys standings stakes (r .count)) (atFirst .offset) ≡ map (recode keyOf) (map (lineOf terms) cs)
   pub after : linesOf (columns keys standings stakes (r .count)) (r .offset) ≡ map (recode keyOf) (outcome terms cs .lines)
-  pub placed : Placed book starts (r .offset) (r .count)
-  pub stood : r .count ≤ length standings
+  pub placed : Placed book starts standings (r .offset) (r .count) (not (r .down))
   pub reports : reportBytes (sheetOf book starts standings r) ≡ report (outcome terms cs)
   pub lists : listingBytes (sheetOf book starts standings r) ≡ listed (outcome terms cs)
   pub short : length (listingBytes (sheetOf book starts standings r)) ≤ listingRoom
@@ -66,7 +66,7 @@ pub record Shows (book : List ℕ) (terms : Terms) (cs : List Customer) (keys st
 abbrev pub Came : List ℕ → Verdict → List ℕ → List ℕ → List ℕ → List ℕ → Worked → Type 0
 Came book (Refused n place) keys starts standings stakes r = r ≡ workedNot (refusedAt n place)
 Came book (Accepted terms cs) keys starts standings stakes r =
-    (r ≡ workedIn (columns keys standings stakes (r .count))) × Shows book terms cs keys starts standings stakes r
+    (r ≡ workedIn (terms .down) (columns keys standings stakes (r .count))) × Shows book terms cs keys starts standings stakes r
 
 -- what a verdict comes to, and the columns that are left: those that the book fills
 pub record CameOut (book : List ℕ) (v : Verdict) (full : Filled) (keys starts standings stakes : List ℕ) (r : Worked) : Type 0 where

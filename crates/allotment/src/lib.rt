@@ -27,10 +27,11 @@ pub struct Closed {
     pub residue: u64,
 }
 
-// What a book comes to: a refusal, or number 0 and what its customers have offset.
+// What a book comes to: a refusal, or number 0, how it is locked, and what its customers have offset.
 pub struct Worked {
     pub refusal: Refusal,
     pub count: usize,
+    pub down: bool,
     pub offset: [u32; MOST_CUSTOMERS],
     pub total: u64,
     pub residue: u64,
@@ -82,6 +83,7 @@ pub fn work_out_in(
         return Worked {
             refusal: refusal,
             count: 0,
+            down: false,
             offset: [0u32; MOST_CUSTOMERS],
             total: 0,
             residue: 0,
@@ -92,6 +94,7 @@ pub fn work_out_in(
     Worked {
         refusal: refusal,
         count: count,
+        down: roll.down,
         offset: offset,
         total: closed.total,
         residue: closed.residue,
@@ -121,7 +124,7 @@ pub struct Answer {
     pub length: u64,
 }
 
-// 11, or the report at the front of the lent buffer.
+// 11, or the report at the front of the lent buffer. Who is in a tier is net long, or net short, by `long`: on the side that is not locked.
 fn report_lines(
     book: &[u8],
     starts: &[u16],
@@ -130,12 +133,22 @@ fn report_lines(
     count: usize,
     total: u64,
     residue: u64,
+    long: bool,
     report: &mut [u8],
 ) -> Answer
-    requires { ⌜ Placed (now book) (now starts) (now offset) count ⌝ ∗ ⌜ count ≤ length (now standings) ⌝ }
+    requires { ⌜ Placed (now book) (now starts) (now standings) (now offset) count long ⌝ }
     ensures { λ r. ⌜ Answered (fitted (length (now (report .entry))) (reportBytes (sheet (now (book .entry)) (now (starts .entry)) (now (standings .entry)) (now (offset .entry)) count total residue))) r (now (report .entry)) (now (report .exit)) ⌝ }
 {
-    let needed = report::report_length(book, starts, offset, count, total, residue);
+    let needed = report::report_length(
+        book,
+        starts,
+        standings,
+        offset,
+        count,
+        total,
+        residue,
+        long,
+    );
     if report.len() < needed {
         return Answer {
             number: refusal::NO_ROOM,
@@ -152,6 +165,7 @@ fn report_lines(
         count,
         total,
         residue,
+        long,
         false,
     );
     Answer {
@@ -187,6 +201,7 @@ pub fn allot_in(book: &[u8], report: &mut [u8], in_rows: bool) -> Answer
         };
     }
     let offset = worked.offset;
+    let long = !worked.down;
     report_lines(
         book,
         &starts,
@@ -195,6 +210,7 @@ pub fn allot_in(book: &[u8], report: &mut [u8], in_rows: bool) -> Answer
         worked.count,
         worked.total,
         worked.residue,
+        long,
         report,
     )
 }
@@ -233,6 +249,7 @@ pub fn list(book: &[u8], out: &mut [u8]) -> Listing
         };
     }
     let offset = worked.offset;
+    let long = !worked.down;
     Listing {
         number: refusal::ACCEPTED,
         place: 0,
@@ -245,6 +262,7 @@ pub fn list(book: &[u8], out: &mut [u8]) -> Listing
             worked.count,
             worked.total,
             worked.residue,
+            long,
             true,
         ),
     }

@@ -171,7 +171,7 @@ module _ (k : ℕ) (c : Columns) (st : Cascade) where
   pending-is i h = ⊎-elim (λ e. omega (arith, offset-at i h)) (λ e. omega (arith, offset-at i h)) (one-way i)
 
   line-is : (l : Line) (p o : ℕ) → p ≡ l .pending → o ≡ l .offset →
-      record { code = l .code; standing = l .standing; offered = l .offered; pending = p; offset = o } ≡ l
+      record { code = l .code; seats = l .seats; standing = l .standing; offered = l .offered; pending = p; offset = o } ≡ l
   line-is l p o e f = rw (e, f)
 
   line-after : (i : ℕ) → i < c .count → lineAt c (afterTier k c st .offset) i ≡ lineAfter i

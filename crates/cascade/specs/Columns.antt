@@ -48,6 +48,7 @@ lineAt c offset i =
     let s = standingOf (at (c .standings) i) in
     record {
       code = at (c .keys) i ∷ [];
+      seats = [];
       standing = s;
       offered = offeredAs s (at (c .stakes) i);
       pending = pendingAs s (at (c .stakes) i) - at offset i;

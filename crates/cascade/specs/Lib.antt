@@ -3,3 +3,4 @@ pub mod Columns
 pub mod State
 pub mod After
 pub mod Rows
+pub mod Capped

@@ -33,7 +33,7 @@ rowAt keys standings stakes offset i = record { key = at keys i; standing = at s
 abbrev pub lineIn : Row → Line
 lineIn r =
     let s = standingOf (r .standing) in
-    record { code = r .key ∷ []; standing = s; offered = offeredAs s (r .stake); pending = pendingAs s (r .stake) - r .offset; offset = r .offset }
+    record { code = r .key ∷ []; seats = []; standing = s; offered = offeredAs s (r .stake); pending = pendingAs s (r .stake) - r .offset; offset = r .offset }
 
 abbrev pub noRow : Row
 noRow = record { key = 0; standing = 0; stake = 0; offset = 0 }

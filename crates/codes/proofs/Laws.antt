@@ -11,7 +11,7 @@ use lib.ListN.{length, getD, take}
 use lib.Seq.{take-suc}
 use lib.Dec.{eqb}
 use Rattle.rules.specs.Codes.{isCode}
-use Rattle.rules.specs.Book.{Customer, given}
+use Rattle.rules.specs.Book.{taken}
 use Rattle.laws.specs.Keys.{keyOf, key-same}
 use Rattle.codes.specs.declared.Code.the-variants.{Key, Malformed}
 use Rattle.codes.specs.Codes.{codeOf, givenIn}
@@ -43,9 +43,10 @@ pub given-step :
     (givenIn (take i keys) key || eqb (getD keys i 0) key) ≡ givenIn (take (i + 1) keys) key
 given-step keys i key h = rw (add-one, take-suc keys i 0) (sym (given-snoc (take i keys) (getD keys i 0) key))
 
-pub given-keys :
-    (v : List ℕ) (cs : List Customer) → isCode v ≡ true → ((c : Customer) → List·Memᴰ c cs → isCode (c .code) ≡ true) →
-    given v cs ≡ givenIn (map (λ c. keyOf (c .code)) cs) (keyOf v)
-given-keys v [] e h = refl
-given-keys v (c ∷ cs) e h =
-    ap₂ (λ p q. p || q) (key-same (c .code) v (h c (List·Memᴰ·head refl)) e) (given-keys v cs e (λ d m. h d (List·Memᴰ·tail m)))
+-- of customers and of seats
+pub taken-keys :
+    {A : Type 0} (code : A → List ℕ) (v : List ℕ) (l : List A) → isCode v ≡ true → ((a : A) → List·Memᴰ a l → isCode (code a) ≡ true) →
+    taken code v l ≡ givenIn (map (λ a. keyOf (code a)) l) (keyOf v)
+taken-keys code v [] e h = refl
+taken-keys code v (a ∷ l) e h =
+    ap₂ (λ p q. p || q) (key-same (code a) v (h a (List·Memᴰ·head refl)) e) (taken-keys code v l e (λ b m. h b (List·Memᴰ·tail m)))

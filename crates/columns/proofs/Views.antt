@@ -87,7 +87,7 @@ module _ (s keys starts standings stakes : List ℕ) (w : Worked) (e : Came s (j
           let h = f .1 in
           record {
             few = h .placed .few;
-            stood = h .stood;
+            stood = h .placed .stood;
             wide = h .placed .wide;
             answers = λ room. ap (viewedOf room) j ∙ ap {B = (Runs → List ℕ) → Answer} (λ (v : Runs) run. fitted room (run v)) (shown-is h);
           }

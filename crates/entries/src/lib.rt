@@ -9,12 +9,11 @@ use writing::put_bytes;
 use writing::put_three;
 ghost use mathlib.Core.Path.{_≡_};
 ghost use mathlib.Core.List.{[], _∷_};
-ghost use Prim.Native.Nat.{_<_};
+ghost use Prim.Native.Nat.{_+_, _≤_, _<_};
 ghost use lib.ListN.{length};
-ghost use Rattle.rules.specs.Report.{digits, letter, field, reported};
+ghost use Rattle.rules.specs.Report.{digits, letter, field};
 ghost use Rattle.writing.specs.Written.{Room, Wrote};
-ghost use Rattle.writing.specs.Shown.{shown};
-ghost use Rattle.entries.specs.Entries.{tagAndLength, tagged, reportHead, reportedLength};
+ghost use Rattle.entries.specs.Entries.{tagAndLength, tagged, ownBytes, seatBytes, reportHead, reportedLength, seatLength};
 
 // High byte first. The length of a value must fit two bytes.
 fn put_tag(out: &mut [u8], at: usize, tag: u8, count: usize) -> usize
@@ -51,7 +50,7 @@ fn put_standing_field(out: &mut [u8], at: usize, standing: Standing) -> usize
     put_byte(out, value, letter_of(standing))
 }
 
-// A customer in the report.
+// A customer's own fields in the report.
 pub fn put_reported(
     out: &mut [u8],
     at: usize,
@@ -60,12 +59,22 @@ pub fn put_reported(
     offset: u64,
 ) -> usize
     requires { ⌜ length (now code) < 65536 ⌝ }
-    requires { ⌜ Room at (reported (shown (now code) standing offset)) (now out) ⌝ }
-    ensures { λ r. ⌜ Wrote at (reported (shown (now (code .entry)) standing offset)) (now (out .entry)) (now (out .exit)) r ⌝ }
+    requires { ⌜ Room at (ownBytes (now code) standing offset) (now out) ⌝ }
+    ensures { λ r. ⌜ Wrote at (ownBytes (now (code .entry)) standing offset) (now (out .entry)) (now (out .exit)) r ⌝ }
 {
     let second = put_field(out, at, tag::C, code);
     let third = put_standing_field(out, second, standing);
     put_number_field(out, third, tag::O, offset)
+}
+
+// A seat's.
+pub fn put_seat(out: &mut [u8], at: usize, code: &[u8], lots: u64) -> usize
+    requires { ⌜ length (now code) < 65536 ⌝ }
+    requires { ⌜ Room at (seatBytes (now code) lots) (now out) ⌝ }
+    ensures { λ r. ⌜ Wrote at (seatBytes (now (code .entry)) lots) (now (out .entry)) (now (out .exit)) r ⌝ }
+{
+    let second = put_field(out, at, tag::I, code);
+    put_number_field(out, second, tag::J, lots)
 }
 
 // What stands before the customers in a report.
@@ -82,6 +91,13 @@ pub fn reported_length(code_length: usize, offset: u64) -> usize
     ensures { λ r. ⌜ r ≡ reportedLength «code_length» offset ⌝ }
 {
     10 + code_length + digits_length(offset)
+}
+
+pub fn seat_length(code_length: usize, lots: u64) -> usize
+    requires { ⌜ «code_length» < 65536 ⌝ }
+    ensures { λ r. ⌜ (r ≡ seatLength «code_length» lots) × (r ≤ 26 + «code_length») ⌝ }
+{
+    6 + code_length + digits_length(lots)
 }
 
 pub fn head_length(total: u64, residue: u64) -> usize

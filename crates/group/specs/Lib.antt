@@ -1,4 +1,2 @@
-pub mod Position
 pub mod Group
-pub mod Ranges
 pub mod Total

@@ -1,20 +1,18 @@
 // Reads a customer's group.
-use fields::FigureAt;
 use fields::Refusal;
+use positions::PositionAt;
 use rules::Fen;
-use rules::Lots;
 use rules::Position;
 use rules::Standing;
 use rules::Terms;
 use rules::refusal;
-use rules::tag;
 use trades::TradesAt;
 ghost use mathlib.Core.Path.{_≡_};
 ghost use mathlib.Core.List.{List};
 ghost use Prim.Native.Nat.{ℕ, _≤_};
 ghost use lib.ListN.{drop};
 ghost use Rattle.rules.specs.Fields.{fieldsOf};
-ghost use Rattle.rules.specs.Book.{DueTrade, Open, afterC, overdrawn};
+ghost use Rattle.rules.specs.Book.{Customer, DueTrade, Open, afterC};
 ghost use Rattle.rules.specs.Standing.{standingAt};
 ghost use Rattle.rules.specs.Cascade.{offeredBy, pendingBy};
 ghost use Rattle.laws.specs.Groups.{groupFrom};
@@ -23,14 +21,8 @@ ghost use Rattle.fields.specs.Ranges.{Short};
 ghost use Rattle.terms.specs.Ranges.{Sound};
 ghost use Rattle.trades.specs.Walk.{newestIn};
 ghost use Rattle.group.specs.Total.{Summed};
-ghost use Rattle.group.specs.Position.{positionOf};
-ghost use Rattle.group.specs.Group.{started, closedAt, groupAt};
-ghost use Rattle.group.specs.Ranges.{Held};
-
-pub enum PositionAt {
-    Read { position: Position, next: usize },
-    Refused(Refusal),
-}
+ghost use Rattle.group.specs.Group.{Holding, closedAt, groupAt};
+ghost use Rattle.positions.specs.Ranges.{Few};
 
 // A customer's group up to the field that closes it: the customer's standing, and the lots that it offers and has pending.
 pub enum GroupAt {
@@ -41,59 +33,6 @@ pub enum GroupAt {
         pending: u32,
     },
     Refused(Refusal),
-}
-
-// 8: "Q exceeds K when locked down, or H when locked up"
-fn overdrawn_by(terms: Terms, position: Position) -> bool
-    ensures { λ r. ⌜ r ≡ overdrawn terms position ⌝ }
-{
-    if terms.down {
-        position.long.0 < position.unfilled.0
-    } else {
-        position.short.0 < position.unfilled.0
-    }
-}
-
-// K, H and Q from a place on.
-fn read_position(book: &[u8], terms: Terms, at: usize) -> PositionAt
-    ensures { λ r. ⌜ r ≡ positionOf (now (book .entry)) terms at ⌝ }
-{
-    let k = fields::figure_at(book, at, tag::K, figures::HELD);
-    let FigureAt::Value {
-        number: long,
-        next: at_h,
-    } = k
-    else {
-        return PositionAt::Refused(fields::refusal_in(k));
-    };
-    let h = fields::figure_at(book, at_h, tag::H, figures::HELD);
-    let FigureAt::Value {
-        number: short,
-        next: at_q,
-    } = h
-    else {
-        return PositionAt::Refused(fields::refusal_in(h));
-    };
-    let q = fields::figure_at(book, at_q, tag::Q, figures::HELD);
-    let FigureAt::Value {
-        number: unfilled,
-        next,
-    } = q
-    else {
-        return PositionAt::Refused(fields::refusal_in(q));
-    };
-    let position = Position {
-        long: Lots(long),
-        short: Lots(short),
-        unfilled: Lots(unfilled),
-    };
-    if overdrawn_by(terms, position) {
-        return PositionAt::Refused(Refusal {
-            number: refusal::OVERDRAWN,
-            place: at_q,
-        });
-    }
-    PositionAt::Read { position, next }
 }
 
 // "The whole net position is offered."
@@ -165,10 +104,10 @@ fn total_gain(
     newest::newest_gain(book, settlement, long, first, need, opened)
 }
 
-// A customer's trades and what comes of them, where its position is read; its C is at `place`.
+// A customer's trades and what comes of them, where its seats are read and add up to this position; its C is at `place`.
 fn group_of(book: &[u8], terms: Terms, place: usize, position: Position, first: usize) -> GroupAt
-    requires { ⌜ Short (now book) ⌝ ∗ ⌜ Sound terms ⌝ ∗ ⌜ Held position ⌝ }
-    ensures { λ r. ⌜ ((code : List ℕ) → r ≡ groupAt terms (groupFrom terms (Open DueTrade (started position code)) place first (fieldsOf (drop first (now (book .entry)))))) ⌝ }
+    requires { ⌜ Short (now book) ⌝ ∗ ⌜ Sound terms ⌝ ∗ ⌜ Few 4_000_000 position ⌝ }
+    ensures { λ r. ⌜ ((c : Customer) → Holding position c → r ≡ groupAt terms (groupFrom terms (Open DueTrade c) place first (fieldsOf (drop first (now (book .entry)))))) ⌝ }
 {
     let long = gain::net_long(position);
     match trades::read_trades(book, terms.decimals, terms.settlement, long, first) {
@@ -207,7 +146,7 @@ pub fn read_group(book: &[u8], terms: Terms, place: usize, at: usize) -> GroupAt
     requires { ⌜ Short (now book) ⌝ ∗ ⌜ Sound terms ⌝ }
     ensures { λ r. ⌜ ((code : List ℕ) → r ≡ groupAt terms (groupFrom terms (afterC code) place at (fieldsOf (drop at (now (book .entry)))))) ⌝ }
 {
-    match read_position(book, terms, at) {
+    match positions::read_seats(book, terms, at) {
         PositionAt::Read { position, next } => group_of(book, terms, place, position, next),
         PositionAt::Refused(r) => GroupAt::Refused(r),
     }

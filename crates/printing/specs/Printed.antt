@@ -11,7 +11,7 @@ use Rattle.rules.specs.Cascade.{Line, Outcome}
 use Rattle.rules.specs.Report.{digits, joined, printed, listed, listingOf}
 use Rattle.writing.specs.Shown.{shown}
 
-pub printed-shown : (l : Line) → printed l ≡ printed (shown (l .code) (l .standing) (l .offset))
+pub printed-shown : (l : Line) → printed l ≡ printed (shown (l .code) (l .seats) (l .standing) (l .offset))
 printed-shown l = refl
 
 -- what stands before the customers

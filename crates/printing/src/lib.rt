@@ -5,7 +5,7 @@ use writing::put_byte;
 use writing::put_bytes;
 use writing::put_digits;
 use writing::put_three;
-ghost use mathlib.Core.List.{_++_};
+ghost use mathlib.Core.List.{[], _++_};
 ghost use Rattle.rules.specs.Book.{Refused};
 ghost use Rattle.rules.specs.Report.{digits, printed, listingOf};
 ghost use Rattle.writing.specs.Written.{Room, Wrote};
@@ -14,8 +14,8 @@ ghost use Rattle.printing.specs.Printed.{listedHead};
 
 // A customer in the listing.
 pub fn put_printed(out: &mut [u8], at: usize, code: &[u8], standing: Standing, offset: u64) -> usize
-    requires { ⌜ Room at (printed (shown (now code) standing offset)) (now out) ⌝ }
-    ensures { λ r. ⌜ Wrote at (printed (shown (now (code .entry)) standing offset)) (now (out .entry)) (now (out .exit)) r ⌝ }
+    requires { ⌜ Room at (printed (shown (now code) [] standing offset)) (now out) ⌝ }
+    ensures { λ r. ⌜ Wrote at (printed (shown (now (code .entry)) [] standing offset)) (now (out .entry)) (now (out .exit)) r ⌝ }
 {
     let blank = put_bytes(out, at, code);
     let number = put_three(out, blank, b' ', letter_of(standing), b' ');

@@ -11,16 +11,16 @@ use Rattle.reasons.specs.Lines.{lineOf}
 
 -- the tags of a book, in the order of their names below
 abbrev pub tags : List ℕ
-tags = bytes "DXSLUVCKHQBAZ"
+tags = bytes "DXSLUVCIKHQBAZ"
 
 -- the place of a byte among them; their number where it is none of them
 abbrev pub placeIn : ℕ → List ℕ → ℕ
 placeIn t [] = 0
 placeIn t (x ∷ xs) = cond (eqb x t) 0 (suc (placeIn t xs))
 
--- the field that begins at a place of the book, as a place among the names; 13 where a byte is no tag, and 14 where the book has ended
+-- the field that begins at a place of the book, as a place among the names; 14 where a byte is no tag, and 15 where the book has ended
 abbrev pub fieldAt : List ℕ → ℕ → ℕ
-fieldAt book place = cond (ltb place (length book)) (placeIn (getD book place 0) tags) 14
+fieldAt book place = cond (ltb place (length book)) (placeIn (getD book place 0) tags) 15
 
 abbrev pub names : List ℕ
 names =
@@ -31,6 +31,7 @@ names =
     bytes "the tier 1 edge U\n" ++
     bytes "the tier 2 edge V\n" ++
     bytes "the customer code C\n" ++
+    bytes "the seat code I\n" ++
     bytes "the lots held long K\n" ++
     bytes "the lots held short H\n" ++
     bytes "the unfilled lots Q\n" ++
@@ -64,18 +65,19 @@ plain =
     bytes "more than 256 customers\n" ++
     bytes "the report is longer than the buffer\n" ++
     bytes "this trade's price is above five times the settlement price S or below a fifth of it\n" ++
+    bytes "this customer has a seat of this code already\n" ++
     bytes "no such number\n" ++
     bytes "the book ends where a field is due\n"
 
 -- 2, 3, 4 and 5 name the field, where there is one
 abbrev pub named : ℕ → ℕ → Bool
-named n f = cond (ltb f 13) (cond (leb 2 n) (leb n 5) false) false
+named n f = cond (ltb f 14) (cond (leb 2 n) (leb n 5) false) false
 
 unfoldable pub withField : ℕ → ℕ → List ℕ
 withField n f = lineOf n leads ++ lineOf f names
 
 abbrev pub plainLine : ℕ → ℕ → ℕ
-plainLine n f = cond (eqb f 14) (cond (eqb n 2) 14 (min n 13)) (min n 13)
+plainLine n f = cond (eqb f 15) (cond (eqb n 2) 15 (min n 14)) (min n 14)
 
 unfoldable pub reason : ℕ → ℕ → List ℕ
 reason n f = cond (named n f) (withField n f) (lineOf (plainLine n f) plain)

@@ -16,15 +16,15 @@ ghost use Rattle.reasons.specs.Reason.{placeIn, fieldAt, named, plainLin
 pub const WORDS_ROOM: usize = 128;
 
 // The number of tags that a book has, and the place of a byte that is none of them.
-const NO_TAG: usize = 13;
+const NO_TAG: usize = 14;
 
 // The place of a field that begins behind the book.
-const BEHIND: usize = 14;
+const BEHIND: usize = 15;
 
 // The line after those of all numbers, and the one after it, for a book that has ended where a field is due.
-const NO_NUMBER: u64 = 13;
+const NO_NUMBER: u64 = 14;
 
-const ENDED: usize = 14;
+const ENDED: usize = 15;
 
 // How many lines are still to be passed, behind this byte.
 fn lines_left(left: usize, byte: u8) -> usize
@@ -93,7 +93,7 @@ pub fn field_at(book: &[u8], place: u64) -> usize
     ensures { λ r. ⌜ r ≡ fieldAt (now (book .entry)) place ⌝ }
 {
     if place < book.len() as u64 {
-        return place_in(book[place as usize], b"DXSLUVCKHQBAZ");
+        return place_in(book[place as usize], b"DXSLUVCIKHQBAZ");
     }
     BEHIND
 }
@@ -123,7 +123,7 @@ fn put_named(out: &mut [u8], at: usize, number: usize, field: usize) -> usize
     put_line(
         out,
         name,
-        b"the limit D\nthe decimals X\nthe settlement price S\nthe loss edge L\nthe tier 1 edge U\nthe tier 2 edge V\nthe customer code C\nthe lots held long K\nthe lots held short H\nthe unfilled lots Q\nthe bought trade B\nthe sold trade A\nthe end Z\n",
+        b"the limit D\nthe decimals X\nthe settlement price S\nthe loss edge L\nthe tier 1 edge U\nthe tier 2 edge V\nthe customer code C\nthe seat code I\nthe lots held long K\nthe lots held short H\nthe unfilled lots Q\nthe bought trade B\nthe sold trade A\nthe end Z\n",
         field,
     )
 }
@@ -153,7 +153,7 @@ pub fn put_reason(out: &mut [u8], at: usize, number: u64, field: usize) -> usize
     put_line(
         out,
         at,
-        b"accepted\nthe book has more than 60,000 bytes\nthe book ends before the end of a field\na byte that is no tag, or that follows Z\na comma in a figure\na value that is not of its form or range\nthe tier 1 edge U is not greater than the tier 2 edge V\nthis customer code was given before\nthe unfilled lots Q exceed the lots held on the locked side\nthis customer's opening trades on its net side sum to less than its net position\nmore than 256 customers\nthe report is longer than the buffer\nthis trade's price is above five times the settlement price S or below a fifth of it\nno such number\nthe book ends where a field is due\n",
+        b"accepted\nthe book has more than 60,000 bytes\nthe book ends before the end of a field\na byte that is no tag, or that follows Z\na comma in a figure\na value that is not of its form or range\nthe tier 1 edge U is not greater than the tier 2 edge V\nthis customer code was given before\nthe unfilled lots Q exceed the lots held on the locked side\nthis customer's opening trades on its net side sum to less than its net position\nmore than 256 customers\nthe report is longer than the buffer\nthis trade's price is above five times the settlement price S or below a fifth of it\nthis customer has a seat of this code already\nno such number\nthe book ends where a field is due\n",
         plain_line(number, field),
     )
 }

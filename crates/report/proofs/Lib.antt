@@ -1,2 +1,4 @@
 -- Laws that the crate's proofs cite.
 mod First
+mod SeatBytes
+mod Lines

@@ -1,24 +1,32 @@
--- The bytes that a book's customers come to, in a report and in a listing: their codes stand in the book, each behind its field's length.
+-- The bytes that a book's customers come to, in a report and in a listing: their codes stand in the book, each behind its field's length, and
+-- their seats behind their codes.
 -- Assumes nothing.
 use Prim.Native.Nat.{ℕ, _+_, _-_, _≤_, _<_}
+use mathlib.Core.Path.{_≡_}
 use mathlib.Core.Bool.{Bool, true, false}
 use mathlib.Core.List.{List, _++_, map}
 use lib.ListN.{length, getD, take, drop}
 use Rattle.rules.specs.Limits.{mostCustomers, longestCode}
+use Rattle.rules.specs.declared.Standing.{Standing}
+use Rattle.rules.specs.Book.{Seat}
 use Rattle.rules.specs.Cascade.{Line}
+use Rattle.rules.specs.Seats.{seatWeight, weightIn}
 use Rattle.rules.specs.Report.{joined, reported, printed}
 use Rattle.laws.specs.Sums.{upTo}
+use Rattle.seats.specs.Dealt.{seatsAt, dealt, Due, seatOf}
 use Rattle.cascade.specs.Columns.{standingOf}
 use Rattle.writing.specs.Shown.{shown}
-use Rattle.entries.specs.Entries.{reportHead}
+use Rattle.entries.specs.Entries.{seatBytes, reportHead}
 use Rattle.printing.specs.Printed.{listedHead}
 
--- the size of the code of customer i, and the code
-abbrev pub sizeAt : List ℕ → List ℕ → ℕ → ℕ
-sizeAt book starts i = getD book (getD starts i 0 - 1) 0
+-- the size of a code, whose value starts at a place: the low byte of its field's length; and the line of the customer whose code starts
+-- there: its seats stand behind its code
+abbrev pub sizeAt : List ℕ → ℕ → ℕ
+sizeAt book start = getD book (start - 1) 0
 
-abbrev pub codeAt : List ℕ → List ℕ → ℕ → List ℕ
-codeAt book starts i = take (sizeAt book starts i) (drop (getD starts i 0) book)
+abbrev pub lineFrom : List ℕ → ℕ → Standing → ℕ → Line
+lineFrom book start standing offset =
+    shown (take (sizeAt book start) (drop start book)) (seatsAt book (start + sizeAt book start)) standing offset
 
 pub record Sheet : Type 0 where
   pub book : List ℕ
@@ -34,7 +42,7 @@ sheet book starts standings offset count total residue =
     record { book = book; starts = starts; standings = standings; offset = offset; count = count; total = total; residue = residue }
 
 abbrev pub lineAt : Sheet → ℕ → Line
-lineAt s i = shown (codeAt (s .book) (s .starts) i) (standingOf (getD (s .standings) i 0)) (getD (s .offset) i 0)
+lineAt s i = lineFrom (s .book) (getD (s .starts) i 0) (standingOf (getD (s .standings) i 0)) (getD (s .offset) i 0)
 
 -- what stands before the customers, and a customer: in a listing, or in a report
 abbrev pub frontBytes : Bool → ℕ → ℕ → List ℕ
@@ -54,14 +62,28 @@ reportBytes s = sheetBytes false s
 abbrev pub listingBytes : Sheet → List ℕ
 listingBytes s = sheetBytes true s
 
--- at most 256 customers, each with a place in the book behind which its code stands
-pub record Code (book starts : List ℕ) (i : ℕ) : Type 0 where
-  pub behind : 0 < getD starts i 0
-  pub short : sizeAt book starts i ≤ longestCode
-  pub inside : getD starts i 0 + sizeAt book starts i ≤ length book
+-- the fields of seats with the lots that stand in an array, and with those of a division by a side
+abbrev pub seatPiece : List Seat → List ℕ → ℕ → List ℕ
+seatPiece seats lots i = seatBytes (seatOf seats i .code) (getD lots i 0)
 
-pub record Placed (book starts offset : List ℕ) (count : ℕ) : Type 0 where
+unfoldable pub eachBytes : List Seat → List ℕ → List ℕ
+eachBytes seats lots = joined (seatPiece seats lots) (upTo (length seats))
+
+unfoldable pub seatsBytes : Standing → Bool → ℕ → List Seat → List ℕ
+seatsBytes standing long offset seats = joined (λ (s : Seat). seatBytes (s .code) (dealt standing long offset seats s)) seats
+
+-- a customer's code stands in the book, its seats behind it, which are weighed by this side if by any
+pub record Seated (book : List ℕ) (start : ℕ) (standing : Standing) (offset : ℕ) (long : Bool) : Type 0 where
+  pub behind : 0 < start
+  pub short : sizeAt book start ≤ longestCode
+  pub inside : start + sizeAt book start ≤ length book
+  pub due : Due (seatsAt book (start + sizeAt book start)) standing long offset
+  pub side : weightIn (lineFrom book start standing offset) ≡ seatWeight standing long
+
+-- at most 256 customers, each with a place in the book where its code starts
+pub record Placed (book starts standings offset : List ℕ) (count : ℕ) (long : Bool) : Type 0 where
   pub few : count ≤ mostCustomers
   pub started : count ≤ length starts
+  pub stood : count ≤ length standings
   pub wide : count ≤ length offset
-  pub code : (i : ℕ) → i < count → Code book starts i
+  pub seated : (i : ℕ) → i < count → Seated book (getD starts i 0) (standingOf (getD standings i 0)) (getD offset i 0) long

@@ -1,15 +1,16 @@
 // The report and the listing of an accepted book: the codes stand in the book, and the rest in the customers' columns.
+mod seated;
+
 use rules::Standing;
+use seated::put_seats;
+use seated::seats_length;
 ghost use mathlib.Core.Path.{_≡_};
-ghost use mathlib.Core.List.{List};
-ghost use Prim.Native.Nat.{ℕ, _-_, _≤_, _<_};
+ghost use Prim.Native.Nat.{_-_, _≤_, _<_};
 ghost use lib.ListN.{length, getD};
-ghost use Rattle.rules.specs.Limits.{longestCode};
+ghost use Rattle.rules.specs.Report.{reported};
 ghost use Rattle.cascade.specs.Columns.{standingOf};
 ghost use Rattle.writing.specs.Written.{Room, Wrote};
-ghost use Rattle.entries.specs.Entries.{reportedLength};
-ghost use Rattle.writing.specs.Shown.{shown};
-ghost use Rattle.report.specs.Sheet.{sheet, frontBytes, lineBytes, sheetBytes, reportBytes, Placed};
+ghost use Rattle.report.specs.Sheet.{lineFrom, sheet, frontBytes, lineBytes, sheetBytes, reportBytes, Seated, Placed};
 
 // The standing of a byte.
 pub fn standing_of(byte: u8) -> Standing
@@ -32,30 +33,35 @@ fn size_at(book: &[u8], start: usize) -> usize
     book[start - 1] as usize
 }
 
-// How many bytes a customer takes in a report: at most 42, so that the sum of 256 fits.
-fn line_length(size: usize, offset: u64) -> usize
-    requires { ⌜ size ≤ longestCode ⌝ }
-    ensures { λ r. ⌜ (r ≡ reportedLength size offset) × (r ≤ 42) ⌝ }
+// How many bytes a customer takes in a report: at most 194, so that the sum of 256 fits.
+fn line_length(book: &[u8], start: usize, standing: Standing, offset: u64, long: bool) -> usize
+    requires { ⌜ Seated (now book) start standing offset long ⌝ }
+    ensures { λ r. ⌜ (r ≡ length (reported (lineFrom (now (book .entry)) start standing offset))) × (r ≤ 194) ⌝ }
 {
-    entries::reported_length(size, offset)
+    let size = size_at(book, start);
+    let own = entries::reported_length(size, offset);
+    own + seats_length(book, start + size, standing, long, offset)
 }
 
-// How many bytes the report takes, whatever the standings.
+// How many bytes the report takes. Who is in a tier is net long, or net short, by `long`.
 pub fn report_length(
     book: &[u8],
     starts: &[u16],
+    standings: &[u8],
     offset: &[u32],
     count: usize,
     total: u64,
     residue: u64,
+    long: bool,
 ) -> usize
-    requires { ⌜ Placed (now book) (now starts) (now offset) count ⌝ }
-    ensures { λ r. ⌜ ((standings : List ℕ) → r ≡ length (reportBytes (sheet (now (book .entry)) (now (starts .entry)) standings (now (offset .entry)) count total residue))) ⌝ }
+    requires { ⌜ Placed (now book) (now starts) (now standings) (now offset) count long ⌝ }
+    ensures { λ r. ⌜ r ≡ length (reportBytes (sheet (now (book .entry)) (now (starts .entry)) (now (standings .entry)) (now (offset .entry)) count total residue)) ⌝ }
 {
     let mut n = entries::head_length(total, residue);
     let mut i: usize = 0;
     while i < count {
-        n += line_length(size_at(book, starts[i] as usize), offset[i] as u64);
+        let standing = standing_of(standings[i]);
+        n += line_length(book, starts[i] as usize, standing, offset[i] as u64, long);
         i += 1;
     }
     n
@@ -77,20 +83,23 @@ fn put_front(out: &mut [u8], total: u64, residue: u64, listed: bool) -> usize
 fn put_line(
     out: &mut [u8],
     at: usize,
-    code: &[u8],
+    book: &[u8],
+    start: usize,
     standing: Standing,
     offset: u64,
+    long: bool,
     listed: bool,
 ) -> usize
-    requires { ⌜ length (now code) ≤ longestCode ⌝ }
-    requires { ⌜ Room at (lineBytes listed (shown (now code) standing offset)) (now out) ⌝ }
-    ensures { λ r. ⌜ Wrote at (lineBytes listed (shown (now (code .entry)) standing offset)) (now (out .entry)) (now (out .exit)) r ⌝ }
+    requires { ⌜ Seated (now book) start standing offset long ⌝ }
+    requires { ⌜ Room at (lineBytes listed (lineFrom (now book) start standing offset)) (now out) ⌝ }
+    ensures { λ r. ⌜ Wrote at (lineBytes listed (lineFrom (now (book .entry)) start standing offset)) (now (out .entry)) (now (out .exit)) r ⌝ }
 {
+    let end = start + size_at(book, start);
     if listed {
-        printing::put_printed(out, at, code, standing, offset)
-    } else {
-        entries::put_reported(out, at, code, standing, offset)
+        return printing::put_printed(out, at, &book[start..end], standing, offset);
     }
+    let behind = entries::put_reported(out, at, &book[start..end], standing, offset);
+    put_seats(out, behind, book, end, standing, long, offset)
 }
 
 // The listing or the report, from the front of the buffer on.
@@ -103,10 +112,10 @@ pub fn put_sheet(
     count: usize,
     total: u64,
     residue: u64,
+    long: bool,
     listed: bool,
 ) -> usize
-    requires { ⌜ Placed (now book) (now starts) (now offset) count ⌝ }
-    requires { ⌜ count ≤ length (now standings) ⌝ }
+    requires { ⌜ Placed (now book) (now starts) (now standings) (now offset) count long ⌝ }
     requires { ⌜ Room 0 (sheetBytes listed (sheet (now book) (now starts) (now standings) (now offset) count total residue)) (now out) ⌝ }
     ensures { λ r. ⌜ Wrote 0 (sheetBytes listed (sheet (now (book .entry)) (now (starts .entry)) (now (standings .entry)) (now (offset .entry)) count total residue)) (now (out .entry)) (now (out .exit)) r ⌝ }
 {
@@ -114,14 +123,15 @@ pub fn put_sheet(
     let mut i: usize = 0;
     while i < count {
         let start = starts[i] as usize;
-        let end = start + size_at(book, start);
         let standing = standing_of(standings[i]);
         at = put_line(
             out,
             at,
-            &book[start..end],
+            book,
+            start,
             standing,
             offset[i] as u64,
+            long,
             listed,
         );
         i += 1;

@@ -14,13 +14,14 @@ use lib.Dec.{leb, ltb, eqb}
 use borrow.Author.Tests.{leb-true, leb-false, ltb-true, ltb-false, lt-ltb, le-ltb, ne-eqb}
 use Rattle.rules.specs.declared.Terms.{Terms}
 use Rattle.rules.specs.declared.Standing.{Standing}
-use Rattle.rules.specs.Limits.{mostCustomers, longestCode}
+use Rattle.rules.specs.Limits.{mostCustomers, mostSeats, longestCode}
 use Rattle.rules.specs.Refusal as refusal
 use Rattle.rules.specs.Text.{is}
 use Rattle.rules.specs.Codes.{isCode}
 use Rattle.rules.specs.Fields.{Field, Cut, fieldsOf}
 use Rattle.rules.specs.Book.{
   Customer,
+  position,
   given,
   Stop,
   Next,
@@ -45,11 +46,12 @@ use Rattle.laws.specs.CodeLength.{code-length}
 use Rattle.laws.specs.Keys.{keyOf}
 use Rattle.laws.specs.Fields.{sizeAt, fields-end, fields-cut, fields-whole}
 use Rattle.laws.specs.Groups.{Read, Bad, Good, groupFrom, carried, walk-group, group-rides}
+use Rattle.laws.specs.SeatFields.{seatsIn}
 use Rattle.laws.specs.All2.{All2}
 use Rattle.codes.specs.declared.Code.{Code}
 use Rattle.codes.specs.declared.Code.the-variants.{Key, Malformed}
 use Rattle.codes.specs.Codes.{codeOf, givenIn}
-use Rattle.codes.proofs.Laws.{key-read, none-read, given-keys}
+use Rattle.codes.proofs.Laws.{key-read, none-read, taken-keys}
 use Rattle.fields.specs.declared.Found.the-variants.{Short}
 use Rattle.fields.specs.First.{firstAt}
 use Rattle.fields.specs.Laws.{Stands, Nothing, none, cut, nothing}
@@ -59,6 +61,7 @@ use Rattle.group.specs.declared.GroupAt.the-variants.{Closed}
 use Rattle.group.specs.declared.GroupAt.the-variants.{Refused as NoGroup}
 use Rattle.fields.specs.Reading.{refusedAt, noRefusal}
 use Rattle.group.specs.Group.{groupAt}
+use Rattle.positions.proofs.Again.{group-again}
 use Rattle.roll.specs.declared.Roll.{Roll}
 use Rattle.roll.specs.declared.CodeAt.the-variants.{Key as NewKey}
 use Rattle.roll.specs.declared.CodeAt.the-variants.{Refused as NoCode}
@@ -184,17 +187,17 @@ module _ {s : List ℕ} {terms : Terms} {first at count : ℕ} {keys starts stan
 
     -- Z and what stands behind it: the refusal, or the customers
     pub turn-ended : (r : Refusal) → r ≡ endAt at start end (length s) →
-        Rolled s (verdictFrom terms first (fieldsOf (drop first s))) keys starts standings stakes (endedWith r count)
+        Rolled s (verdictFrom terms first (fieldsOf (drop first s))) keys starts standings stakes (endedWith r count (terms .down))
     turn-ended r e = go (ltb start end) (ltb end (length s)) refl refl e
       where
-        as-said : (f : Refusal) → r ≡ f → endedWith r count ≡ endedWith f count
-        as-said f z = ap (λ (x : Refusal). endedWith x count) z
+        as-said : (f : Refusal) → r ≡ f → endedWith r count (terms .down) ≡ endedWith f count (terms .down)
+        as-said f z = ap (λ (x : Refusal). endedWith x count (terms .down)) z
 
         go : (p q : Bool) → ltb start end ≡ p → ltb end (length s) ≡ q → r ≡ cond p (refusedAt refusal.malformed at) (cond q (refusedAt refusal.misplaced end) (noRefusal)) →
-            Rolled s (verdictFrom terms first (fieldsOf (drop first s))) keys starts standings stakes (endedWith r count)
+            Rolled s (verdictFrom terms first (fieldsOf (drop first s))) keys starts standings stakes (endedWith r count (terms .down))
         go true q x y z = rw (ended true q x y) (as-said (refusedAt refusal.malformed at) z)
         go false true x y z = rw (ended false true x y) (as-said (refusedAt refusal.misplaced end) z)
-        go false false x y z = rw (ended false false x y) (subst (λ (t : Roll). (t .refusal ≡ noRefusal) × Held s terms (b .customers) keys starts standings stakes (t .count)) (sym (as-said noRefusal z)) (refl, b .held))
+        go false false x y z = rw (ended false false x y) (subst (λ (t : Roll). (t .refusal ≡ noRefusal) × Held s terms (b .customers) keys starts standings stakes (t .count) × (t .down ≡ terms .down)) (sym (as-said noRefusal z)) (refl, b .held, refl))
 
   -- C
   module _ {start end : ℕ} (k : Stands s at 67 start end) where
@@ -207,7 +210,7 @@ module _ {s : List ℕ} {terms : Terms} {first at count : ℕ} {keys starts stan
     -- the keys are those of the customers
     known : isCode (value k) ≡ true → given (value k) (b .customers) ≡ givenIn (take count keys) (keyOf (value k))
     known e =
-        given-keys (value k) (b .customers) e (b .sound) ∙ ap (λ (l : List ℕ). givenIn l (keyOf (value k))) (sym (b .held .keyed))
+        taken-keys (λ (c : Customer). c .code) (value k) (b .customers) e (b .sound) ∙ ap (λ (l : List ℕ). givenIn l (keyOf (value k))) (sym (b .held .keyed))
 
     same-few : leb mostCustomers count ≡ leb mostCustomers (length (b .customers))
     same-few = ap (leb mostCustomers) (b .held .counted)
@@ -297,6 +300,7 @@ module _ {s : List ℕ} {terms : Terms} {first at count : ℕ} {keys starts stan
           pub code : customer .code ≡ value k
           pub stands : standingIn terms customer ≡ byteOf st
           pub stake : stakeIn terms customer ≡ stakeAs st offered pending
+          pub seats : seatsIn mostSeats (fieldsOf (drop end s)) ≡ customer .seats
           pub later : end ≤ place
           pub goes :
               walk (Reading (InGroup terms [] Nobody)) 0 first (fieldsOf (drop first s))
@@ -312,13 +316,14 @@ module _ {s : List ℕ} {terms : Terms} {first at count : ℕ} {keys starts stan
                 let d = group-rides s terms (value k) at end c p fs h in
                 let e₀ : p ≡ place = cc in
                 let e₁ : standing terms c ≡ st = cc in
-                let e₂ : offeredBy (standing terms c) (c .position) ≡ offered = cc in
-                let e₃ : pendingBy (standing terms c) (c .position) ≡ pending = cc in
+                let e₂ : offeredBy (standing terms c) (position c) ≡ offered = cc in
+                let e₃ : pendingBy (standing terms c) (position c) ≡ pending = cc in
                 record {
                   customer = c;
                   code = d .named;
                   stands = ap byteOf e₁;
                   stake = λ i. stakeAs (e₁ i) (e₂ i) (e₃ i);
+                  seats = group-again terms at s (value k) end c p fs h;
                   later = omega (arith, d .later);
                   goes = w .goes ∙ ap (carried terms (b .customers) at) h ∙ ap₂ (walk (Reading (InGroup terms (b .customers ++ c ∷ []) Nobody)) at) e₀ (d .fields ∙ ap (λ (n : ℕ). fieldsOf (drop n s)) e₀);
                 }
@@ -335,12 +340,14 @@ module _ {s : List ℕ} {terms : Terms} {first at count : ℕ} {keys starts stan
             let size-c : length (c .code) ≡ end - start = ap length (d .code) ∙ k .size in
             let code-c : isCode (c .code) ≡ true = ap isCode (d .code) ∙ w .code in
             let short-c : length (c .code) ≤ longestCode = code-length (c .code) code-c in
+            let behind-c : start + length (c .code) ≡ end = omega (arith, size-c, k .order) in
             let place-c : start - 1 ≡ at + 2 = omega (arith, k .begins) in
             let code-in : CodeIn s start c = record {
               behind = omega (arith, k .begins);
               size = rw place-c (omega (arith, said-size, size-c, short-c));
               bytes = ap (λ m. take m (drop start s)) size-c ∙ sym (d .code);
               inside = omega (arith, size-c, k .inside, k .order);
+              seats = rw behind-c (d .seats);
             } in
             let h = b .room in (
               d .later,

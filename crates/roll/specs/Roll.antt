@@ -3,7 +3,7 @@
 use Prim.Native.Nat.{ℕ, zero, suc, _+_, _-_, _≤_, _<_}
 use Prim.Native.Char.{code}
 use mathlib.Core.List.{List, [], map}
-use mathlib.Core.Bool.{cond}
+use mathlib.Core.Bool.{Bool, false, cond}
 use mathlib.Core.Path.{_≡_}
 use lib.ListN.{length, getD, set, take, drop}
 use lib.Dec.{leb, ltb, eqb}
@@ -11,12 +11,13 @@ use Rattle.rules.specs.declared.Terms.{Terms}
 use Rattle.rules.specs.declared.Standing.{Standing}
 use Rattle.rules.specs.declared.Standing.the-variants.{Pending, Tier1, Tier2, Tier3, Neither}
 use Rattle.rules.specs.Refusal as refusal
-use Rattle.rules.specs.Limits.{longestBook, mostCustomers}
+use Rattle.rules.specs.Limits.{longestBook, mostCustomers, mostSeats}
 use Rattle.rules.specs.Fields.{Field, fieldsOf}
-use Rattle.rules.specs.Book.{Customer, InGroup, Nobody, Reading, Verdict, Refused, Accepted, afterC, walk}
+use Rattle.rules.specs.Book.{Customer, position, InGroup, Nobody, Reading, Verdict, Refused, Accepted, afterC, walk}
 use Rattle.rules.specs.Standing.{standing}
 use Rattle.rules.specs.Cascade.{offeredBy, pendingBy}
 use Rattle.laws.specs.Keys.{keyOf}
+use Rattle.laws.specs.SeatFields.{seatsIn}
 use Rattle.laws.specs.Groups.{groupFrom}
 use Rattle.laws.specs.All2.{All2}
 use Rattle.codes.specs.declared.Code.{Code}
@@ -66,14 +67,15 @@ unfoldable pub standingIn : Terms → Customer → ℕ
 standingIn terms c = byteOf (standing terms c)
 
 unfoldable pub stakeIn : Terms → Customer → ℕ
-stakeIn terms c = let s = standing terms c in stakeAs s (offeredBy s (c .position)) (pendingBy s (c .position))
+stakeIn terms c = let s = standing terms c in stakeAs s (offeredBy s (position c)) (pendingBy s (position c))
 
--- a customer's code stands in the book from a place on, and its size in the byte before
+-- a customer's code stands in the book from a place on, its size in the byte before, and its seats behind it
 pub record CodeIn (book : List ℕ) (start : ℕ) (c : Customer) : Type 0 where
   pub behind : 0 < start
   pub size : getD book (start - 1) 0 ≡ length (c .code)
   pub bytes : take (length (c .code)) (drop start book) ≡ c .code
   pub inside : start + length (c .code) ≤ length book
+  pub seats : seatsIn mostSeats (fieldsOf (drop (start + length (c .code)) book)) ≡ c .seats
 
 -- the customers in the columns' first places
 pub record Held (book : List ℕ) (terms : Terms) (cs : List Customer) (keys starts standings stakes : List ℕ) (count : ℕ) : Type 0 where
@@ -91,17 +93,18 @@ pub record Room (keys starts standings stakes : List ℕ) : Type 0 where
   pub for-stakes : mostCustomers ≤ length stakes
 
 abbrev pub noRoll : ℕ → ℕ → Roll
-noRoll n place = record { refusal = refusedAt n place; count = 0 }
+noRoll n place = record { refusal = refusedAt n place; count = 0; down = false }
 
--- the roll of a book that ends with so many customers read, or its refusal there
-abbrev pub endedWith : Refusal → ℕ → Roll
-endedWith last count = cond (eqb (last .number) refusal.accepted) (record { refusal = last; count = count }) (noRoll (last .number) (last .place))
+-- the roll of a book that ends with so many customers read and is locked so, or its refusal there
+abbrev pub endedWith : Refusal → ℕ → Bool → Roll
+endedWith last count down =
+    cond (eqb (last .number) refusal.accepted) (record { refusal = last; count = count; down = down }) (noRoll (last .number) (last .place))
 
 -- what a verdict comes to: the refusal, or the customers in the columns
 abbrev pub Rolled : List ℕ → Verdict → List ℕ → List ℕ → List ℕ → List ℕ → Roll → Type 0
 Rolled book (Refused n place) keys starts standings stakes r = r ≡ noRoll n place
 Rolled book (Accepted terms cs) keys starts standings stakes r =
-    (r .refusal ≡ noRefusal) × Held book terms cs keys starts standings stakes (r .count)
+    (r .refusal ≡ noRefusal) × Held book terms cs keys starts standings stakes (r .count) × (r .down ≡ terms .down)
 
 -- the four columns
 pub record Columns : Type 0 where

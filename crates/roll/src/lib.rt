@@ -19,10 +19,11 @@ ghost use Rattle.terms.specs.Ranges.{Sound};
 ghost use Rattle.rules.specs.Book.{judge};
 ghost use Rattle.roll.specs.Roll.{noRoll, byteOf, stakeAs, codeAt, customerAt, endAt, endedWith, verdictFrom, Room, columns, Left, filledFrom, filledBy};
 
-// Either a refusal, or number 0 and how many customers the columns hold.
+// Either a refusal, or number 0, how many customers the columns hold, and whether the contract is locked at its lower limit.
 pub struct Roll {
     pub refusal: Refusal,
     pub count: usize,
+    pub down: bool,
 }
 
 // The key of a new customer.
@@ -48,6 +49,7 @@ fn refused(number: u64, place: usize) -> Roll
     Roll {
         refusal: Refusal { number, place },
         count: 0,
+        down: false,
     }
 }
 
@@ -167,14 +169,15 @@ fn end_at(book: &[u8], at: usize, start: usize, end: usize) -> Refusal
     }
 }
 
-// The roll of a book that ends with so many customers read, or its refusal there.
-fn ended(last: Refusal, count: usize) -> Roll
-    ensures { λ r. ⌜ r ≡ endedWith last count ⌝ }
+// The roll of a book that ends with so many customers read and is locked so, or its refusal there.
+fn ended(last: Refusal, count: usize, down: bool) -> Roll
+    ensures { λ r. ⌜ r ≡ endedWith last count down ⌝ }
 {
     if last.number == refusal::ACCEPTED {
         return Roll {
             refusal: last,
             count,
+            down,
         };
     }
     refused(last.number, last.place)
@@ -202,7 +205,7 @@ fn read_customers(
         };
         if tag == tag::Z {
             let last = end_at(book, at, start, end);
-            return ended(last, count);
+            return ended(last, count, terms.down);
         }
         if tag != tag::C {
             return refused(refusal::MISPLACED, at);

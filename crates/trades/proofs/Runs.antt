@@ -38,7 +38,7 @@ module _ (long : Bool) (terms : Terms) (lastC : ℕ) where
     pub customer : Customer
     pub back : List Field
     pub latest : List Trade
-    pub position : customer .position ≡ c .position
+    pub seats : customer .seats ≡ c .seats
     pub reads : groupFrom terms (Open DueTrade c) lastC at fs ≡ closing lastC place back (Open DueTrade customer)
     pub stand : latest ≡ inFront (tradesIn fs) ts
     pub held : customer .trades ≡ arranged when latest
@@ -62,7 +62,7 @@ module _ (long : Bool) (terms : Terms) (lastC : ℕ) where
           customer = m .customer;
           back = m .back;
           latest = m .latest;
-          position = m .position;
+          seats = m .seats;
           reads = rw (plain, b, e, places, near) (m .reads);
           stand = rw (b, e) (m .stand);
           held = m .held;
@@ -93,7 +93,7 @@ module _ (long : Bool) (terms : Terms) (lastC : ℕ) where
             customer = c;
             back = Whole t v ∷ fs;
             latest = ts;
-            position = refl;
+            seats = refl;
             reads = rw e;
             stand = rw (closing-no-trade t e);
             held = a .held;

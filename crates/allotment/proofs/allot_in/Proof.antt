@@ -48,13 +48,13 @@ slice-aggregate-report-lines-3 : tie.Need-slice-aggregate-report-lines-3
 slice-aggregate-report-lines-3 c = search needs
 
 report-lines-requires : tie.Need-report-lines-requires
-report-lines-requires c κs = let g = gone (c .before .before .before .before .before) in (g .placed, g .stood)
+report-lines-requires c κs = gone (c .before .before .before .before .before .before) .placed
 
 same-length : tie.Need-same-length
 same-length c = search needs
 
 returns-2 : tie.Need-returns-2
-returns-2 c = let p = c .before .before in rw (gone (p .before .before .before .before .before .before) .answers _) (p .report-lines .ensures)
+returns-2 c = let p = c .before .before in rw (gone (p .before .before .before .before .before .before .before) .answers _) (p .report-lines .ensures)
 
 pub allot-in-spec : {M : Type 1} → statement M
 allot-in-spec =

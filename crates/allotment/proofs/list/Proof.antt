@@ -91,7 +91,7 @@ slice-aggregate-put-sheet-3 : tie.Need-slice-aggregate-put-sheet-3
 slice-aggregate-put-sheet-3 c = search needs
 
 put-sheet-requires : tie.Need-put-sheet-requires
-put-sheet-requires c κs = let e = c .before .before .before .before .before in let g = gone e in (g .placed, (g .stood, omega (arith, g .short, begin (came (e .before)) .pre)))
+put-sheet-requires c κs = let e = c .before .before .before .before .before .before in let g = gone e in (g .placed, omega (arith, g .short, begin (came (e .before)) .pre))
 
 same-length-2 : tie.Need-same-length-2
 same-length-2 c = search needs
@@ -99,7 +99,7 @@ same-length-2 c = search needs
 returns-2 : tie.Need-returns-2
 returns-2 c =
     let p = c .before .before in
-    let e = p .before .before .before .before .before .before in
+    let e = p .before .before .before .before .before .before .before in
     let g = gone e in (
       rw (g .lists) (record {
         buffer = p .put-sheet .ensures .whole;

@@ -21,10 +21,10 @@ report-length-requires : tie.Need-report-length-requires
 report-length-requires c κs = search needs
 
 returns : tie.Need-returns
-returns c = let l = c .before in let a = start l .args in too-small (bytes l) (a .report .now) (l .report-length .result) (l .report-length .ensures (a .standings .now)) (c .if1 .taken)
+returns c = let l = c .before in let a = start l .args in too-small (bytes l) (a .report .now) (l .report-length .result) (l .report-length .ensures) (c .if1 .taken)
 
 put-sheet-requires : tie.Need-put-sheet-requires
-put-sheet-requires c κs = let e = c .before in let l = e .before in let s = start l in (s .pre .0, (s .pre .1, omega (arith, e .if1 .left, l .report-length .ensures (s .args .standings .now))))
+put-sheet-requires c κs = let e = c .before in let l = e .before in let s = start l in (s .pre, omega (arith, e .if1 .left, l .report-length .ensures))
 
 same-length : tie.Need-same-length
 same-length c = search needs
@@ -35,7 +35,7 @@ returns-2 c =
     let e = p .before .before in
     let l = e .before in
     let a = start l .args in
-    fits (bytes l) (a .report .now) _ (p .put-sheet .result) (omega (arith, e .if1 .left, l .report-length .ensures (a .standings .now))) (p .put-sheet .ensures .whole) (p .put-sheet .ensures .next)
+    fits (bytes l) (a .report .now) _ (p .put-sheet .result) (omega (arith, e .if1 .left, l .report-length .ensures)) (p .put-sheet .ensures .whole) (p .put-sheet .ensures .next)
 
 pub report-lines-spec : {M : Type 1} → statement M
 report-lines-spec =

@@ -4,15 +4,13 @@ use Prim.Native.Nat.{_+_, _≤_}
 use native.Mathlib.Omega.{arith}
 use borrow.Author.Needs.{needs}
 use lib.ListN.{length}
-use Rattle.rules.specs.Report.{reported}
 use Rattle.writing.specs.Written.{join}
-use Rattle.writing.specs.Shown.{shown}
 use Rattle.entries.specs.Entries.{reportedLength, reported-length}
 use Rattle.entries.proofs.put_reported.Statement.{statement}
 use Rattle.entries.proofs.put_reported.Tie as tie
 
 room : (c : tie.Start) → c .args .at + reportedLength (length (c .args .code .now)) (c .args .offset) ≤ length (c .args .out .now)
-room c = omega (arith, reported-length (shown (c .args .code .now) (c .args .standing) (c .args .offset)))
+room c = omega (arith, reported-length (c .args .code .now) (c .args .standing) (c .args .offset))
 
 put-field-requires : tie.Need-put-field-requires
 put-field-requires c κs = omega (arith, room (c .before .before .before))
@@ -27,7 +25,6 @@ same-length : tie.Need-same-length
 same-length c = search needs
 
 returns : tie.Need-returns
-unfolding reported
 returns c =
     let third = c .before .before in
     let second = third .before .before .before .before in

@@ -142,12 +142,12 @@ enum-known-r : tie.Need-enum-known-r
 enum-known-r c = search needs
 
 returns-2 : tie.Need-returns-2
-returns-2 c code =
+returns-2 c holder holds =
     let b = c .before in
     let e = ended (b .before) in
     let a = begun (b .before) .args in
     c .closed-at .ensures ∙ ap (λ (z : ℤ). closedAt (standingAt (a .terms) (a .position) z) (a .position) (place e)) (exact b)
-    ∙ group-closed (a .terms) (a .position) (a .place) (a .first) (fields (e .before .before)) (place e) (opened e) (gain e) (ordered e) (closed e) (covers (b .before)) code
+    ∙ group-closed (a .terms) (a .position) (a .place) (a .first) (fields (e .before .before)) (place e) (opened e) (gain e) (ordered e) (closed e) (covers (b .before)) holder holds
 
 returns-3 : tie.Need-returns-3
 returns-3 c =

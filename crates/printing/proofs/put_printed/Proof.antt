@@ -14,7 +14,7 @@ use Rattle.printing.proofs.put_printed.Statement.{statement}
 use Rattle.printing.proofs.put_printed.Tie as tie
 
 room : (c : tie.Start) → c .args .at + (4 + length (c .args .code .now) + length (digits (c .args .offset))) ≤ length (c .args .out .now)
-room c = omega (arith, printed-length (shown (c .args .code .now) (c .args .standing) (c .args .offset)))
+room c = omega (arith, printed-length (shown (c .args .code .now) [] (c .args .standing) (c .args .offset)))
 
 -- the letter is written with its blanks, and the definition has them one after the other
 apart : {at m r x y z k : ℕ} {s a b c : List ℕ} → Wrote at s a b m → Wrote m (x ∷ y ∷ z ∷ []) b c r → at ≤ length a → y ≡ k

@@ -13,7 +13,7 @@ use Rattle.reasons.proofs.field_at.Tie as tie
 inside : (book : List ℕ) (place : ℕ) → place < length book → fieldAt book place ≡ placeIn (getD book place 0) tags
 inside book place h = rw (lt-ltb place (length book) h)
 
-behind : (book : List ℕ) (place : ℕ) → length book ≤ place → fieldAt book place ≡ 14
+behind : (book : List ℕ) (place : ℕ) → length book ≤ place → fieldAt book place ≡ 15
 behind book place h = rw (le-ltb place (length book) h)
 
 shared-slice-read-place-in : tie.Need-shared-slice-read-place-in

@@ -10,14 +10,14 @@ use Rattle.reasons.proofs.names_field.Statement.{statement}
 use Rattle.reasons.proofs.names_field.Tie as tie
 
 module _ (n f : ℕ) where
-  from-two : f < 13 → 2 ≤ n → named n f ≡ leb n 5
-  from-two h k = simp (lt-ltb f 13 h, le-leb 2 n k)
+  from-two : f < 14 → 2 ≤ n → named n f ≡ leb n 5
+  from-two h k = simp (lt-ltb f 14 h, le-leb 2 n k)
 
-  before-two : f < 13 → n < 2 → named n f ≡ false
-  before-two h k = simp (lt-ltb f 13 h, lt-leb 2 n k)
+  before-two : f < 14 → n < 2 → named n f ≡ false
+  before-two h k = simp (lt-ltb f 14 h, lt-leb 2 n k)
 
-  no-field : 13 ≤ f → named n f ≡ false
-  no-field h = simp (le-ltb f 13 h)
+  no-field : 14 ≤ f → named n f ≡ false
+  no-field h = simp (le-ltb f 14 h)
 
 returns : tie.Need-returns
 returns c = let a = c .before .before .args in sym (from-two (a .number) (a .field) (c .before .if1 .taken) (c .if2 .taken))

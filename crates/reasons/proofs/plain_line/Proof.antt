@@ -9,14 +9,14 @@ use Rattle.reasons.proofs.plain_line.Statement.{statement}
 use Rattle.reasons.proofs.plain_line.Tie as tie
 
 module _ (n f : ℕ) where
-  inside : (f ≡ 14 → ⊥) → plainLine n f ≡ min n 13
-  inside h = simp (ne-eqb f 14 h)
+  inside : (f ≡ 15 → ⊥) → plainLine n f ≡ min n 14
+  inside h = simp (ne-eqb f 15 h)
 
-  ended : f ≡ 14 → n ≡ 2 → plainLine n f ≡ 14
-  ended h e = simp (eq-eqb f 14 h, eq-eqb n 2 e)
+  ended : f ≡ 15 → n ≡ 2 → plainLine n f ≡ 15
+  ended h e = simp (eq-eqb f 15 h, eq-eqb n 2 e)
 
-  behind : f ≡ 14 → (n ≡ 2 → ⊥) → plainLine n f ≡ min n 13
-  behind h e = simp (eq-eqb f 14 h, ne-eqb n 2 e)
+  behind : f ≡ 15 → (n ≡ 2 → ⊥) → plainLine n f ≡ min n 14
+  behind h e = simp (eq-eqb f 15 h, ne-eqb n 2 e)
 
 lesser-requires : tie.Need-lesser-requires
 lesser-requires c κs = search needs

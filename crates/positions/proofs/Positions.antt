@@ -1,4 +1,4 @@
--- What K, H and Q come to in a group.
+-- What K, H and Q of a seat come to in a group.
 -- Assumes nothing.
 use Prim.Native.Nat.{ℕ}
 use Prim.Native.Char.{Char}
@@ -13,18 +13,17 @@ use Rattle.rules.specs.Refusal as refusal
 use Rattle.rules.specs.Text.{is}
 use Rattle.rules.specs.Figures.{figureOf, heldForm, lots}
 use Rattle.rules.specs.Fields.{Field, fieldsOf}
-use Rattle.rules.specs.Book.{Customer, overdrawn, Step, Stop, Next, refuse, figure, Part, DueK, DueH, DueQ, DueTrade, Group, Open, begun, afterC, within, mayEnd}
+use Rattle.rules.specs.Book.{Seat, Customer, overdrawn, Step, Stop, Next, refuse, figure, Part, DueK, DueH, DueQ, DueSeat, Group, Open, seatAt, joinedBy, within, mayEnd}
 use Rattle.laws.specs.Groups.{Read, Bad, groupFrom, onward}
 use Rattle.fields.specs.declared.Refusal.{Refusal}
-use Rattle.group.specs.declared.PositionAt.{PositionAt}
-use Rattle.group.specs.declared.PositionAt.the-variants.{Read as ReadPosition}
-use Rattle.group.specs.declared.PositionAt.the-variants.{Refused as NoPosition}
+use Rattle.positions.specs.declared.PositionAt.{PositionAt}
+use Rattle.positions.specs.declared.PositionAt.the-variants.{Read as ReadPosition}
+use Rattle.positions.specs.declared.PositionAt.the-variants.{Refused as NoPosition}
 use Rattle.fields.specs.declared.FigureAt.{FigureAt}
 use Rattle.fields.specs.declared.FigureAt.the-variants.{Value}
 use Rattle.fields.specs.declared.FigureAt.the-variants.{Refused as NoFigure}
 use Rattle.fields.specs.Reading.{refusedAt, figureIn}
-use Rattle.group.specs.Position.{thenPosition, positionOf}
-use Rattle.group.specs.Group.{started}
+use Rattle.positions.specs.Position.{thenPosition, positionOf}
 use Rattle.fields.proofs.Steps.{onFigure, Figured, figured}
 
 abbrev pub bad : Refusal → Read
@@ -34,13 +33,17 @@ module _ (terms : Terms) (lastC : ℕ) where
   abbrev go : ℕ → Step Group → ℕ → List Field → Read
   go at r e fs = onward at r λ g. groupFrom terms g lastC e fs
 
-  module _ (s : List ℕ) (code : List ℕ) where
+  -- a seat of this customer with this code
+  module _ (s : List ℕ) (c : Customer) (v : List ℕ) where
+    abbrev pub seatWith : Position → Seat
+    seatWith p = record { code = v; position = p }
+
     abbrev pub thenRead : PositionAt → Read
-    thenRead (ReadPosition p next) = groupFrom terms (Open DueTrade (started p code)) lastC next (fieldsOf (drop next s))
+    thenRead (ReadPosition p next) = groupFrom terms (Open DueSeat (joinedBy c (seatWith p))) lastC next (fieldsOf (drop next s))
     thenRead (NoPosition r) = bad r
 
     -- a part with this tag and a figure is due, and the group may not end before
-    module _ (part : Part) (c : Customer) (tag : Char) (at : ℕ) (next : ℕ → Step Group)
+    module _ (part : Part) (tag : Char) (at : ℕ) (next : ℕ → Step Group)
         (stays : mayEnd part ≡ false)
         (plain : (is "C" (byte tag) || is "Z" (byte tag)) ≡ false)
         (tagged : (v : List ℕ) → within terms (Open part c) (byte tag) v ≡ figure (figureOf heldForm v) next)
@@ -68,22 +71,22 @@ module _ (terms : Terms) (lastC : ℕ) where
           by (Value n e) = after n e
           by (NoFigure r) = refl
 
-    -- 8, or the trades
+    -- 8, or the next seat or trade
     drawn : (p : Position) (at e : ℕ) →
-        go at (refuse refusal.overdrawn (overdrawn terms p) (Next (Open DueTrade (started p code)))) e (fieldsOf (drop e s))
+        go at (refuse refusal.overdrawn (overdrawn terms p) (Next (Open DueSeat (joinedBy c (seatWith p))))) e (fieldsOf (drop e s))
         ≡ thenRead (cond (overdrawn terms p) (NoPosition (refusedAt refusal.overdrawn at)) (ReadPosition p e))
     drawn p at e = by (overdrawn terms p)
       where
         by : (b : Bool) →
-            go at (refuse refusal.overdrawn b (Next (Open DueTrade (started p code)))) e (fieldsOf (drop e s))
+            go at (refuse refusal.overdrawn b (Next (Open DueSeat (joinedBy c (seatWith p))))) e (fieldsOf (drop e s))
             ≡ thenRead (cond b (NoPosition (refusedAt refusal.overdrawn at)) (ReadPosition p e))
         by true = refl
         by false = refl
 
-    pub position-means : (at : ℕ) → groupFrom terms (afterC code) lastC at (fieldsOf (drop at s)) ≡ thenRead (positionOf s terms at)
+    pub position-means : (at : ℕ) → groupFrom terms (Open (DueK (seatAt v 0 0 0)) c) lastC at (fieldsOf (drop at s)) ≡ thenRead (positionOf s terms at)
     unfolding positionOf within
     position-means at =
-        part-read DueK (begun code) "K" at _ refl refl (λ v. refl) (λ t v h. rw h) _ λ k atH.
-        part-read DueH _ "H" atH _ refl refl (λ v. refl) (λ t v h. rw h) _ λ h atQ.
-        part-read DueQ _ "Q" atQ _ refl refl (λ v. refl) (λ t v h. rw h) _ λ q e.
+        part-read (DueK (seatAt v 0 0 0)) "K" at _ refl refl (λ v. refl) (λ t v h. rw h) _ λ k atH.
+        part-read (DueH (seatAt v k 0 0)) "H" atH _ refl refl (λ v. refl) (λ t v h. rw h) _ λ h atQ.
+        part-read (DueQ (seatAt v k h 0)) "Q" atQ _ refl refl (λ v. refl) (λ t v h. rw h) _ λ q e.
         drawn (record { long = lots k; short = lots h; unfilled = lots q }) atQ e

@@ -1,12 +1,12 @@
--- `group::read_position` meets its contract: the definition goes on as the code does, figure by figure.
+-- `positions::read_position` meets its contract: the definition goes on as the code does, figure by figure.
 -- Assumes nothing.
 use mathlib.Core.Path.{sym, _∙_}
 use mathlib.Core.Bool.{true, false}
-use Rattle.group.proofs.Found.{position-found}
-use Rattle.group.specs.Position.{positionOf}
+use Rattle.positions.proofs.Found.{position-found}
+use Rattle.positions.specs.Position.{positionOf}
 use borrow.Author.Needs.{needs}
-use Rattle.group.proofs.read_position.Statement.{statement}
-use Rattle.group.proofs.read_position.Tie as tie
+use Rattle.positions.proofs.read_position.Statement.{statement}
+use Rattle.positions.proofs.read_position.Tie as tie
 
 figure-at-requires : tie.Need-figure-at-requires
 figure-at-requires c κs = search needs

@@ -13,9 +13,9 @@ use Rattle.fields.specs.declared.FigureAt.{FigureAt}
 use Rattle.fields.specs.declared.FigureAt.the-variants.{Value}
 use Rattle.fields.specs.declared.FigureAt.the-variants.{Refused as NoFigure}
 use Rattle.fields.specs.Reading.{refusedAt, figureIn}
-use Rattle.group.specs.declared.PositionAt.{PositionAt}
-use Rattle.group.specs.declared.PositionAt.the-variants.{Read as ReadPosition}
-use Rattle.group.specs.declared.PositionAt.the-variants.{Refused as NoPosition}
+use Rattle.positions.specs.declared.PositionAt.{PositionAt}
+use Rattle.positions.specs.declared.PositionAt.the-variants.{Read as ReadPosition}
+use Rattle.positions.specs.declared.PositionAt.the-variants.{Refused as NoPosition}
 
 -- a position in a book
 module _ (s : List ℕ) where

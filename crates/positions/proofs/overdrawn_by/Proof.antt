@@ -1,7 +1,7 @@
--- `group::overdrawn_by` meets its contract: the side that is locked decides.
+-- `positions::overdrawn_by` meets its contract: the side that is locked decides.
 -- Assumes nothing.
-use Rattle.group.proofs.overdrawn_by.Statement.{statement}
-use Rattle.group.proofs.overdrawn_by.Tie as tie
+use Rattle.positions.proofs.overdrawn_by.Statement.{statement}
+use Rattle.positions.proofs.overdrawn_by.Tie as tie
 
 returns : tie.Need-returns
 returns c = rw (c .before .if1 .taken)

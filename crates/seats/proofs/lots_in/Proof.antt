@@ -1,0 +1,56 @@
+-- The value that is read is the field's.
+-- Assumes nothing.
+use mathlib.Core.Path.{sym, ap, _∙_}
+use borrow.Author.Needs.{needs}
+use Rattle.laws.specs.SeatFields.{lotsSaid}
+use Rattle.seats.proofs.lots_in.Statement.{statement}
+use Rattle.seats.proofs.lots_in.Tie as tie
+
+add-read-figure : tie.Need-add-read-figure
+add-read-figure c = search needs
+
+sub-read-figure : tie.Need-sub-read-figure
+sub-read-figure c = search needs
+
+part-read-figure-start : tie.Need-part-read-figure-start
+part-read-figure-start c = search needs
+
+part-read-figure-end : tie.Need-part-read-figure-end
+part-read-figure-end c = search needs
+
+read-figure-requires : tie.Need-read-figure-requires
+read-figure-requires c κs = search needs
+
+enum-known-lots : tie.Need-enum-known-lots
+enum-known-lots c = search needs
+
+enum-told : tie.Need-enum-told
+enum-told c = search needs
+
+enum-told-2 : tie.Need-enum-told-2
+enum-told-2 c = search needs
+
+returns : tie.Need-returns
+returns c = ap lotsSaid (sym (c .before .lots .given .1) ∙ c .before .before .before .read-figure .ensures)
+
+returns-2 : tie.Need-returns-2
+returns-2 c = ap lotsSaid (sym (c .enum-told .given .1) ∙ c .before .before .read-figure .ensures)
+
+returns-3 : tie.Need-returns-3
+returns-3 c = ap lotsSaid (sym (c .enum-told2 .given .1) ∙ c .before .before .read-figure .ensures)
+
+pub lots-in-spec : {M : Type 1} → statement M
+lots-in-spec =
+    tie.close
+    (tie.spec
+    add-read-figure
+    sub-read-figure
+    part-read-figure-start
+    part-read-figure-end
+    read-figure-requires
+    enum-known-lots
+    enum-told
+    enum-told-2
+    returns
+    returns-2
+    returns-3)
