@@ -163,15 +163,15 @@ module _ (κs : Lfts 1) (a : Args entries.put_head.signature κs) (r : ℕ) (s :
   head-put out total residue = h .whole ∙ rw (out, total, residue) refl
 
 -- of no customers. The total's digits twice: 8; one byte more: 10
-module _ (κs : Lfts 3) (a : Args report.report_length.signature κs) (r : ℕ) (s : AtExit report.report_length.ended κs) (h : report.report_length.Reads.Learnt κs a r s) where
-  pub length-of-a-report : a .1 .1 .1 .0 ≡ 0 → a .1 .1 .1 .1 .0 ≡ 5 → a .1 .1 .1 .1 .1 .0 ≡ 12 → r ≡ 9
+module _ (κs : Lfts 4) (a : Args report.report_length.signature κs) (r : ℕ) (s : AtExit report.report_length.ended κs) (h : report.report_length.Reads.Learnt κs a r s) where
+  pub length-of-a-report : a .1 .1 .1 .1 .0 ≡ 0 → a .1 .1 .1 .1 .1 .0 ≡ 5 → a .1 .1 .1 .1 .1 .1 .0 ≡ 12 → r ≡ 9
   unfolding sheetBytes digits
-  length-of-a-report count total residue = h [] ∙ rw (count, total, residue) refl
+  length-of-a-report count total residue = h ∙ rw (count, total, residue) refl
 
 -- with the residue for the total: "total 12\nleft 5\n"
 module _ (κs : Lfts 5) (a : Args report.put_sheet.signature κs) (r : ℕ) (s : AtExit report.put_sheet.ended κs) (h : report.put_sheet.Reads.Learnt κs a r s) where
   pub empty-listing :
-      now (a .0) ≡ bytes "xxxxxxxxxxxxxxxxx" → a .1 .1 .1 .1 .1 .0 ≡ 0 → a .1 .1 .1 .1 .1 .1 .0 ≡ 5 → a .1 .1 .1 .1 .1 .1 .1 .0 ≡ 12 → a .1 .1 .1 .1 .1 .1 .1 .1 .0 ≡ true →
+      now (a .0) ≡ bytes "xxxxxxxxxxxxxxxxx" → a .1 .1 .1 .1 .1 .0 ≡ 0 → a .1 .1 .1 .1 .1 .1 .0 ≡ 5 → a .1 .1 .1 .1 .1 .1 .1 .0 ≡ 12 → a .1 .1 .1 .1 .1 .1 .1 .1 .1 .0 ≡ true →
       now (s .0) ≡ bytes "total 5\nleft 12\nx"
   unfolding written sheetBytes digits
   empty-listing out count total residue listed = h .whole ∙ rw (out, count, total, residue, listed) refl

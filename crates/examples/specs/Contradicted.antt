@@ -22,10 +22,11 @@ use Rattle.rules.specs.Book.{within, step, judge}
 use Rattle.rules.specs.Standing.{gainFrom, totalGain, standing}
 use Rattle.rules.specs.Division.{leftOver, rank, shareOf, share}
 use Rattle.rules.specs.Cascade.{lineOf, quantity, after, cascade, outcome}
-use Rattle.rules.specs.Report.{field, digits, reported, report, listing}
+use Rattle.rules.specs.Seats.{seatLots}
+use Rattle.rules.specs.Report.{field, digits, reportedSeat, reported, report, listing}
 use Rattle.rules.specs.Answer.{answer}
 use Rattle.cases.specs.Case.{Holds, so}
-use Rattle.cases.specs.Tables.{termsWith, gold, bought, sold, customer, book}
+use Rattle.cases.specs.Tables.{termsWith, gold, bought, sold, customer, book, entry}
 use Rattle.cases.specs.Cases.{theListing}
 use Rattle.writing.specs.Written.{written-front}
 use Rattle.allotment.specs.declared.Listing.{Listing}
@@ -42,8 +43,9 @@ comma = theListing "8,000"
 abbrev room : ℕ → List ℕ
 room n = replicate n 255
 
+-- what a report has of a customer with one seat
 abbrev line : String → String → String → List ℕ
-line code letter lots = field "C" (bytes code) ++ field "E" (bytes letter) ++ field "O" (bytes lots)
+line code letter lots = entry code letter lots
 
 -- a report of the five customers: the total, the residue, and the lots offset in the listing's order
 abbrev told : String → String → String → String → String → String → String → List ℕ
@@ -53,9 +55,9 @@ told total residue w3 p2 w1 p1 w2 =
 abbrev right : List ℕ
 right = told "9" "1" "1" "3" "3" "6" "5"
 
--- number 0, and a report in a buffer of 80 bytes
+-- number 0, and a report in a buffer of 125 bytes
 abbrev reports : String → List ℕ → Tried
-reports name shown = tried name sound (room 80) 0 0 (length shown) (shown ++ drop (length shown) (room 80))
+reports name shown = tried name sound (room 125) 0 0 (length shown) (shown ++ drop (length shown) (room 125))
 
 -- the same customer twice, without a position
 abbrev idle : List ℕ
@@ -88,19 +90,19 @@ priced x s = termsWith "D" x s "8.000" "8.000" "4.000"
 
 -- the right answers, so that a wrong one differs in its one respect
 pub right-allowed : Holds "the listing" (allowed (reports "the listing" right))
-unfolding answer writtenOf figureOf openingOf stampOf isCode fieldsOf within step judge gainFrom totalGain standing leftOver rank shareOf share lineOf quantity after cascade outcome digits reported report
+unfolding answer writtenOf figureOf openingOf stampOf isCode fieldsOf within step judge gainFrom totalGain standing leftOver rank shareOf share lineOf quantity after cascade outcome digits seatLots reportedSeat reported report
 right-allowed = so
 
 pub yuan-allowed : Holds "prices in yuan" (allowed (takes "prices in yuan" (one (priced "0" "400") "440 1")))
-unfolding answer writtenOf figureOf openingOf stampOf isCode fieldsOf within step judge gainFrom totalGain standing leftOver rank shareOf share lineOf quantity after cascade outcome digits reported report
+unfolding answer writtenOf figureOf openingOf stampOf isCode fieldsOf within step judge gainFrom totalGain standing leftOver rank shareOf share lineOf quantity after cascade outcome digits seatLots reportedSeat reported report
 yuan-allowed = so
 
 pub bound-allowed : Holds "five times S" (allowed (takes "five times S" (one gold "2000.00 1")))
-unfolding answer writtenOf figureOf openingOf stampOf isCode fieldsOf within step judge gainFrom totalGain standing leftOver rank shareOf share lineOf quantity after cascade outcome digits reported report
+unfolding answer writtenOf figureOf openingOf stampOf isCode fieldsOf within step judge gainFrom totalGain standing leftOver rank shareOf share lineOf quantity after cascade outcome digits seatLots reportedSeat reported report
 bound-allowed = so
 
 pub far-allowed : Holds "above five times S" (allowed (far "above five times S" (one gold "2000.01 1")))
-unfolding answer writtenOf figureOf openingOf stampOf isCode fieldsOf within step judge gainFrom totalGain standing leftOver rank shareOf share lineOf quantity after cascade outcome digits reported report
+unfolding answer writtenOf figureOf openingOf stampOf isCode fieldsOf within step judge gainFrom totalGain standing leftOver rank shareOf share lineOf quantity after cascade outcome digits seatLots reportedSeat reported report
 far-allowed = so
 
 abbrev pub wrong : List Tried
@@ -108,23 +110,23 @@ wrong =
     reports "the cascade is not run" (told "0" "10" "0" "0" "0" "0" "0")
     ∷ reports "tier 1 alone" (told "3" "7" "0" "1" "3" "2" "0")
     ∷ reports "of equal remainders the larger code, or the grand total divided once" (told "9" "1" "1" "4" "3" "5" "5")
-    ∷ tried "accepted, and nothing is written" sound (room 80) 0 0 0 (room 80)
-    ∷ tried "the length is one short" sound (room 80) 0 0 72 (right ++ room 7)
-    ∷ tried "a byte behind the report is altered" sound (room 80) 0 0 73 (right ++ room 6 ++ 0 ∷ [])
-    ∷ tried "the empty book's answer" sound (room 80) 2 0 0 (room 80)
-    ∷ tried "no room, where there is" sound (room 73) 11 73 0 (room 73)
-    ∷ tried "a report cut to its room" sound (room 72) 0 0 72 (take 72 right)
-    ∷ tried "number and place change places" comma (room 80) 17 4 0 (room 80)
-    ∷ tried "refused, and a byte is altered" comma (room 80) 4 17 0 (0 ∷ room 79)
-    ∷ tried "a comma is passed over" comma (room 80) 0 0 73 (right ++ room 7)
+    ∷ tried "accepted, and nothing is written" sound (room 125) 0 0 0 (room 125)
+    ∷ tried "the length is one short" sound (room 125) 0 0 117 (right ++ room 7)
+    ∷ tried "a byte behind the report is altered" sound (room 125) 0 0 118 (right ++ room 6 ++ 0 ∷ [])
+    ∷ tried "the empty book's answer" sound (room 125) 2 0 0 (room 125)
+    ∷ tried "no room, where there is" sound (room 118) 11 118 0 (room 118)
+    ∷ tried "a report cut to its room" sound (room 117) 0 0 117 (take 117 right)
+    ∷ tried "number and place change places" comma (room 125) 17 4 0 (room 125)
+    ∷ tried "refused, and a byte is altered" comma (room 125) 4 17 0 (0 ∷ room 124)
+    ∷ tried "a comma is passed over" comma (room 125) 0 0 118 (right ++ room 7)
     ∷ reports "all customers N" (field "T" (bytes "0") ++ field "R" (bytes "0") ++ line "W3" "N" "0" ++ line "P2" "N" "0" ++ line "W1" "N" "0" ++ line "P1" "N" "0" ++ line "W2" "N" "0")
     ∷ reports "the report begins with the second customer" (field "T" (bytes "9") ++ field "R" (bytes "1") ++ line "P2" "P" "3" ++ line "W1" "1" "3" ++ line "P1" "P" "6" ++ line "W2" "2" "5")
-    ∷ tried "an entry more than there are customers" sound (room 90) 0 0 86 (right ++ line "W2" "2" "5" ++ room 4)
-    ∷ tried "a rate of two decimals is taken" (theListing "8.00") (room 80) 0 0 73 (right ++ room 7)
-    ∷ tried "every book is too long" sound (room 80) 1 0 0 (room 80)
-    ∷ tried "bytes after Z are passed over" (sound ++ 0 ∷ []) (room 80) 0 0 73 (right ++ room 7)
-    ∷ tried "a code given before is told as one of no form" twice (room 80) 5 (length (book gold (idle ∷ [])) - 3) 0 (room 80)
-    ∷ tried "a code given before is passed over" twice (room 40) 0 0 32 (neither ++ line "A" "N" "0" ++ room 8)
+    ∷ tried "an entry more than there are customers" sound (room 144) 0 0 140 (right ++ line "W2" "2" "5" ++ room 4)
+    ∷ tried "a rate of two decimals is taken" (theListing "8.00") (room 125) 0 0 118 (right ++ room 7)
+    ∷ tried "every book is too long" sound (room 125) 1 0 0 (room 125)
+    ∷ tried "bytes after Z are passed over" (sound ++ 0 ∷ []) (room 125) 0 0 118 (right ++ room 7)
+    ∷ tried "a code given before is told as one of no form" twice (room 125) 5 (length (book gold (idle ∷ [])) - 3) 0 (room 125)
+    ∷ tried "a code given before is passed over" twice (room 58) 0 0 50 (neither ++ line "A" "N" "0" ++ room 8)
     ∷ takes "a trade's price without decimals is taken where X is 2" (one gold "440 1")
     ∷ takes "a trade's price with decimals is taken where X is 0" (one (priced "0" "400") "440.00 1")
     ∷ takes "S has two decimals, whatever X says" (one (priced "0" "400.00") "440 1")
@@ -142,7 +144,7 @@ wrong =
     ∷ []
 
 pub contradicted : Contradicted wrong
-unfolding answer writtenOf figureOf openingOf stampOf isCode fieldsOf within step judge gainFrom totalGain standing leftOver rank shareOf share lineOf quantity after cascade outcome digits reported report
+unfolding answer writtenOf figureOf openingOf stampOf isCode fieldsOf within step judge gainFrom totalGain standing leftOver rank shareOf share lineOf quantity after cascade outcome digits seatLots reportedSeat reported report
 contradicted = none-given wrong (
     so & so & so & so & so & so & so & so & so & so & so & so & so & so & so & so & so & so & so & so
     & so & so & so & so & so & so & so & so & so & so & so & so & so & so & done)

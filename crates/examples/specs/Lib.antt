@@ -3,12 +3,15 @@ pub mod Listing
 pub mod Rearranged
 pub mod TradesMoved
 pub mod InAnyOrder
+pub mod Several
 pub mod Allowed
 pub mod Contradicted
+pub mod SeatsContradicted
 pub mod Divided
 pub mod Cascaded
 pub mod Leaves
 pub mod Answered
+pub mod SeatsAnswered
 pub mod Ordered
 pub mod InColumns
 pub mod Said

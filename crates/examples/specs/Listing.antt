@@ -17,20 +17,23 @@ use Rattle.rules.specs.Standing.{gainFrom, totalGain, standing}
 use Rattle.laws.specs.Sums.{upTo}
 use Rattle.rules.specs.Division.{sumOf, leftOver, rank, shareOf, share}
 use Rattle.rules.specs.Cascade.{lineOf, quantity, after, cascade, outcome}
-use Rattle.rules.specs.Report.{digits, reported, report}
+use Rattle.rules.specs.Seats.{seatLots}
+use Rattle.rules.specs.Report.{digits, reportedSeat, reported, report}
 use Rattle.rules.specs.Answer.{answer}
+use Rattle.cases.specs.Tables.{theSeat}
 use Rattle.cases.specs.Cases.{theListing}
 use Rattle.promises.specs.Statement.{Entry, Told, told, stake, positionAt, lotsOf, pendingAt}
 
+-- each customer has one seat, which has all of its lots
 abbrev entry : String → Char → ℕ → Entry
-entry v letter n = record { code = bytes v; letter = code letter; lots = n }
+entry v letter n = record { code = bytes v; letter = code letter; lots = n; seats = record { code = bytes theSeat; lots = n } ∷ [] }
 
 abbrev customersIn : Verdict → List Customer
 customersIn (Refused n place) = []
 customersIn (Accepted terms cs) = cs
 
 abbrev pub its : Told
-its = told (answer (theListing "8.000") 73 .report)
+its = told (answer (theListing "8.000") 118 .report)
 
 abbrev pub customers : List Customer
 customers = customersIn (judge (theListing "8.000"))
@@ -40,7 +43,7 @@ abbrev pub has : ℕ → Position
 has i = positionAt customers i
 
 pub record Worked : Type 0 where
-  pub accepted : answer (theListing "8.000") 73 .number ≡ 0
+  pub accepted : answer (theListing "8.000") 118 .number ≡ 0
   pub tells : its ≡ record { total = 9; residue = 1; entries = entry "W3" "3" 1 ∷ entry "P2" "P" 3 ∷ entry "W1" "1" 3 ∷ entry "P1" "P" 6 ∷ entry "W2" "2" 5 ∷ [] }
   -- 1: six and three lots on the one side, of ten counted, and three, five and one on the other
   pub pending-side : lotsOf its "P" ≡ 9
@@ -50,5 +53,5 @@ pub record Worked : Type 0 where
   pub stakes : stake (code "3") (has 0) ∷ stake (code "P") (has 1) ∷ stake (code "1") (has 2) ∷ stake (code "P") (has 3) ∷ stake (code "2") (has 4) ∷ [] ≡ 1 ∷ 4 ∷ 3 ∷ 6 ∷ 5 ∷ []
 
 pub worked : Worked
-unfolding told answer report reported writtenOf figureOf openingOf stampOf isCode fieldsOf within step judge gainFrom totalGain standing leftOver rank shareOf share lineOf quantity after cascade outcome digits
+unfolding told answer report reported reportedSeat seatLots writtenOf figureOf openingOf stampOf isCode fieldsOf within step judge gainFrom totalGain standing leftOver rank shareOf share lineOf quantity after cascade outcome digits
 worked = record { accepted = refl; tells = refl; pending-side = refl; counted = refl; gaining-side = refl; stakes = refl }

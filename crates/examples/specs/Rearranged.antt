@@ -18,7 +18,8 @@ use Rattle.rules.specs.Book.{within, step, Verdict, Refused, Accepted, judge}
 use Rattle.rules.specs.Standing.{gainFrom, totalGain, standing}
 use Rattle.rules.specs.Division.{oneIf, leftOver, rank, shareOf, share}
 use Rattle.rules.specs.Cascade.{Line, lineOf, quantity, after, cascade, outcome}
-use Rattle.rules.specs.Report.{digits, reported, report, listing}
+use Rattle.rules.specs.Seats.{seatLots}
+use Rattle.rules.specs.Report.{digits, reportedSeat, reported, report, listing}
 use Rattle.rules.specs.Answer.{answer}
 use Rattle.consequences.specs.Rearranged.{partsOf, regrouped, rearranged, among, nobody, Chosen}
 use Rattle.cases.specs.Tables.{gold, bought, sold, customer, book}
@@ -45,7 +46,7 @@ five = 4 ∷ 1 ∷ 0 ∷ 3 ∷ 5 ∷ []
 abbrev pub rowed : ℕ → List Line → List Line
 rowed row [] = []
 rowed row (l ∷ ls) =
-    record { code = row ∷ []; standing = l .standing; offered = l .offered; pending = l .pending; offset = 0 } ∷ rowed (suc row) ls
+    record { code = row ∷ []; seats = l .seats; standing = l .standing; offered = l .offered; pending = l .pending; offset = 0 } ∷ rowed (suc row) ls
 
 abbrev pub byRow : List Line → List ℕ
 byRow ls = map (λ l. l .offset) (cascade (rowed 0 ls) .lines)
@@ -83,7 +84,7 @@ six-chosen =
     out (suc (suc (suc (suc (suc (suc i)))))) h e = absurd (omega arith)
 
 pub six-shown : Shown
-unfolding answer report reported regrouped partsOf outcomeOf writtenOf figureOf openingOf stampOf isCode fieldsOf within step judge gainFrom totalGain standing leftOver rank shareOf share lineOf quantity after cascade outcome digits listing
+unfolding answer report reported reportedSeat seatLots regrouped partsOf outcomeOf writtenOf figureOf openingOf stampOf isCode fieldsOf within step judge gainFrom totalGain standing leftOver rank shareOf share lineOf quantity after cascade outcome digits listing
 six-shown = record { accepted = refl; chosen = six-chosen; other = refl; before = refl; after = refl; by-row = refl; by-other-row = refl }
 
 -- and so demand 3 says

@@ -23,7 +23,7 @@ of-the-comma = refl
 
 -- every field by its tag, and a byte that is none
 pub of-fields :
-    map (λ (t : ℕ). reason 2 (placeIn t tags)) (bytes "DXSLUVCKHQBAZx") ≡
+    map (λ (t : ℕ). reason 2 (placeIn t tags)) (bytes "DXSLUVCIKHQBAZx") ≡
     map bytes (
     "the book ends before the end of the limit D"
     ∷ "the book ends before the end of the decimals X"
@@ -32,6 +32,7 @@ pub of-fields :
     ∷ "the book ends before the end of the tier 1 edge U"
     ∷ "the book ends before the end of the tier 2 edge V"
     ∷ "the book ends before the end of the customer code C"
+    ∷ "the book ends before the end of the seat code I"
     ∷ "the book ends before the end of the lots held long K"
     ∷ "the book ends before the end of the lots held short H"
     ∷ "the book ends before the end of the unfilled lots Q"
@@ -46,7 +47,7 @@ of-fields = refl
 
 -- every number at the settlement price S, whose place among the tags is 2; and numbers that are none
 pub of-numbers :
-    map (λ (n : ℕ). reason n 2) (0 ∷ 1 ∷ 2 ∷ 3 ∷ 4 ∷ 5 ∷ 6 ∷ 7 ∷ 8 ∷ 9 ∷ 10 ∷ 11 ∷ 12 ∷ 13 ∷ 4294967296 ∷ []) ≡
+    map (λ (n : ℕ). reason n 2) (0 ∷ 1 ∷ 2 ∷ 3 ∷ 4 ∷ 5 ∷ 6 ∷ 7 ∷ 8 ∷ 9 ∷ 10 ∷ 11 ∷ 12 ∷ 13 ∷ 14 ∷ 4294967296 ∷ []) ≡
     map bytes (
     "accepted"
     ∷ "the book has more than 60,000 bytes"
@@ -61,6 +62,7 @@ pub of-numbers :
     ∷ "more than 256 customers"
     ∷ "the report is longer than the buffer"
     ∷ "this trade's price is above five times the settlement price S or below a fifth of it"
+    ∷ "this customer has a seat of this code already"
     ∷ "no such number"
     ∷ "no such number"
     ∷ []
@@ -75,7 +77,7 @@ pub without-a-field :
 unfolding lineOf withField reason
 without-a-field = refl
 
-pub behind-the-end : (reason 3 (fieldAt (bytes "\n") 0) ≡ bytes "a byte that is no tag, or that follows Z") × (reason 9 14 ≡ reason 9 5)
+pub behind-the-end : (reason 3 (fieldAt (bytes "\n") 0) ≡ bytes "a byte that is no tag, or that follows Z") × (reason 9 15 ≡ reason 9 5)
 unfolding lineOf withField reason
 behind-the-end = (refl, refl)
 

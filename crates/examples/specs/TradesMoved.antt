@@ -20,7 +20,8 @@ use Rattle.rules.specs.Book.{Customer, within, step, Verdict, Refused, Accepted
 use Rattle.rules.specs.Standing.{gainFrom, totalGain, standing}
 use Rattle.rules.specs.Division.{oneIf, leftOver, rank, shareOf, share}
 use Rattle.rules.specs.Cascade.{lineOf, quantity, after, cascade, outcome}
-use Rattle.rules.specs.Report.{digits, reported, report, listing, listingOf}
+use Rattle.rules.specs.Seats.{seatLots}
+use Rattle.rules.specs.Report.{digits, reportedSeat, reported, report, listing, listingOf}
 use Rattle.rules.specs.Answer.{answer}
 use Rattle.laws.specs.All2.{All2}
 use Rattle.consequences.specs.Rearranged.{partsOf, regrouped, tradesOf, tradeAt, among, nobody, Chosen}
@@ -58,7 +59,7 @@ moved = regrouped four (eachReindexed (groupsAt four three) orders)
 abbrev heldByPlace : List (List ℕ) → List Customer → List Customer
 heldByPlace [] cs = []
 heldByPlace (g ∷ gs) [] = []
-heldByPlace (g ∷ gs) (c ∷ cs) = record { code = c .code; position = c .position; trades = reverse (map tradeAt (tradesOf g)) } ∷ heldByPlace gs cs
+heldByPlace (g ∷ gs) (c ∷ cs) = record { code = c .code; seats = c .seats; trades = reverse (map tradeAt (tradesOf g)) } ∷ heldByPlace gs cs
 
 abbrev pub byPlace : List ℕ → Verdict → Verdict
 byPlace s (Refused n place) = Refused n place
@@ -112,7 +113,7 @@ trades-in-order = (
 )
 
 pub trades-shown : Shown
-unfolding answer report reported regrouped partsOf outcomeOf writtenOf figureOf openingOf stampOf isCode fieldsOf within step judge gainFrom totalGain standing leftOver rank shareOf share lineOf quantity after cascade outcome digits listing
+unfolding answer report reported reportedSeat seatLots regrouped partsOf outcomeOf writtenOf figureOf openingOf stampOf isCode fieldsOf within step judge gainFrom totalGain standing leftOver rank shareOf share lineOf quantity after cascade outcome digits listing
 trades-shown = record { accepted = refl; chosen = three-chosen; in-order = trades-in-order; is = refl; before = refl; after = refl; by-place = refl; by-other-place = refl }
 
 -- and so demand 3 says

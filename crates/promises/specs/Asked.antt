@@ -13,6 +13,8 @@ use Rattle.codes.proofs as codes
 use Rattle.gain.proofs as gain
 use Rattle.fields.proofs as fields
 use Rattle.terms.proofs as terms
+use Rattle.positions.proofs as positions
+use Rattle.seats.proofs as seats
 use Rattle.writing.proofs as writing
 use Rattle.entries.proofs as entries
 use Rattle.reasons.proofs as reasons
@@ -50,6 +52,15 @@ list κs a = (λ h. h, λ h. h)
 -- the functions that look at bytes of a book, and the sums
 pub read-terms : AsksNothing terms.read_terms.ended terms.read_terms.Reads.Asked
 read-terms κs a = tt
+
+pub read-seats : AsksNothing positions.read_seats.ended positions.read_seats.Reads.Asked
+read-seats κs a = tt
+
+pub next-seat : AsksNothing seats.next_seat.ended seats.next_seat.Reads.Asked
+next-seat κs a = tt
+
+pub only-seat : AsksNothing seats.only_seat.ended seats.only_seat.Reads.Asked
+only-seat κs a = tt
 
 pub field-at : AsksNothing fields.field_at.ended fields.field_at.Reads.Asked
 field-at κs a = tt

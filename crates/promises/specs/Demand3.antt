@@ -1,6 +1,7 @@
 -- Demand 3: "Rearrange an accepted book's customers, or take out those who are neither pending nor in a tier, or both: it is accepted too, with
 -- the same report buffer, and everybody still in it has the same standing and lots, with the same total and residue." And request [2]: "a
--- customer's own trades be rearranged too, so long as trades of equal day and minute keep their order."
+-- customer's own trades be rearranged too, so long as trades of equal day and minute keep their order." And request [5]: "Demand 3 keeps a customer's
+-- seats in their order", and each of them has the same lots.
 -- Assumes nothing.
 use Prim.Native.Nat.{ℕ, _≤_, _<_}
 use Prim.Native.Char.{code}
@@ -10,7 +11,8 @@ use lib.ListN.{length, getD, drop, length-append}
 use native.Mathlib.Omega.{arith}
 use Rattle.rules.specs.Fields.{Field, Whole, fieldsOf}
 use Rattle.rules.specs.Book.{Customer}
-use Rattle.rules.specs.Cascade.{Outcome, lineOf, outcome}
+use Rattle.rules.specs.Cascade.{Line, Outcome, lineOf, outcome}
+use Rattle.rules.specs.Seats.{seatLots}
 use Rattle.rules.specs.Report.{digits, field, joined, reported, report}
 use Rattle.rules.specs.Answer.{answer}
 use Rattle.consequences.specs.Rearranged.{partsOf, together, picked, regrouped, nobody, Chosen, Retraded}
@@ -24,13 +26,19 @@ use Rattle.consequences.specs.Rearrange.{length-joined, rearranged-accepted}
 use Rattle.promises.specs.Call.{Call, bookOf, lentTo, leftBy}
 use Rattle.promises.specs.Outcomes.{noCustomer, outcomeOf, Fits, accepted-fits, fits-accepted, fits-report}
 
+-- the lots of each of a customer's seats, in the order of the seats
+abbrev pub lotsBySeat : Line → List ℕ
+lotsBySeat l = map (seatLots l) (l .seats)
+
 -- Book t is accepted with the same room as book s, and says of its customers what s says of those at the indices `is`
 pub record Stays (s t is : List ℕ) (room : ℕ) : Type 0 where
   pub accepted : answer t room .number ≡ 0
   pub total : outcomeOf t .total ≡ outcomeOf s .total
   pub residue : outcomeOf t .residue ≡ outcomeOf s .residue
-  -- code, standing and lots of each customer that is still in it
+  -- code, seats, standing and lots of each customer that is still in it
   pub lines : outcomeOf t .lines ≡ picked nobody (outcomeOf s .lines) is
+  -- and the lots of each of its seats
+  pub seats : map lotsBySeat (outcomeOf t .lines) ≡ map lotsBySeat (picked nobody (outcomeOf s .lines) is)
   -- and this is what stands in the buffer
   pub report : answer t room .report ≡ report (outcomeOf t)
 
@@ -91,6 +99,7 @@ module _ (s : List ℕ) (room : ℕ) (f : Fits s room) where
           total = ap (λ (o : Outcome). o .total) same;
           residue = ap (λ (o : Outcome). o .residue) same;
           lines = ap (λ (o : Outcome). o .lines) same;
+          seats = ap (λ (o : Outcome). map lotsBySeat (o .lines)) same;
           report = fits-report (regrouped s hs) room still-fits;
         }
 

@@ -17,7 +17,9 @@ use Rattle.terms.proofs as terms
 use Rattle.trades.proofs as trades
 use Rattle.store.proofs as store
 use Rattle.newest.proofs as newest
+use Rattle.positions.proofs as positions
 use Rattle.group.proofs as group
+use Rattle.seats.proofs as seats
 use Rattle.command.proofs as command
 
 -- what a contract says of the arguments, the result and the arguments at exit, for a signature
@@ -118,9 +120,23 @@ stored-gain κs a r q s t e f = (e ∙ sym f, refl)
 pub newest-gain : Determined newest.newest_gain.ended newest.newest_gain.Reads.Learnt
 newest-gain κs a r q s t e f = (e ∙ sym f, refl)
 
+-- positions
+pub read-seats : Determined positions.read_seats.ended positions.read_seats.Reads.Learnt
+read-seats κs a r q s t e f = (e ∙ sym f, refl)
+
 -- group: whatever the code
 pub read-group : Determined group.read_group.ended group.read_group.Reads.Learnt
 read-group κs a r q s t e f = (e [] ∙ sym (f []), refl)
+
+-- seats
+pub next-seat : Determined seats.next_seat.ended seats.next_seat.Reads.Learnt
+next-seat κs a r q s t e f = (e ∙ sym f, refl)
+
+pub only-seat : Determined seats.only_seat.ended seats.only_seat.Reads.Learnt
+only-seat κs a r q s t e f = (e ∙ sym f, refl)
+
+pub seat-lots : Determined seats.seat_lots.ended seats.seat_lots.Reads.Learnt
+seat-lots κs a r q s t e f = (e ∙ sym f, refl)
 
 -- command
 pub word-of : Determined command.word_of.ended command.word_of.Reads.Learnt

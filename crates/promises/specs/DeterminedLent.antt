@@ -91,11 +91,17 @@ letter-of κs a r q s t e f = (e ∙ sym f, refl)
 pub put-reported : Determined entries.put_reported.ended entries.put_reported.Reads.Learnt
 put-reported κs a r q s t e f = wrote e f
 
+pub put-seat : Determined entries.put_seat.ended entries.put_seat.Reads.Learnt
+put-seat κs a r q s t e f = wrote e f
+
 pub put-head : Determined entries.put_head.ended entries.put_head.Reads.Learnt
 put-head κs a r q s t e f = wrote e f
 
 pub reported-length : Determined entries.reported_length.ended entries.reported_length.Reads.Learnt
 reported-length κs a r q s t e f = (e ∙ sym f, refl)
+
+pub seat-length : Determined entries.seat_length.ended entries.seat_length.Reads.Learnt
+seat-length κs a r q s t e f = (e .0 ∙ sym (f .0), refl)
 
 pub head-length : Determined entries.head_length.ended entries.head_length.Reads.Learnt
 head-length κs a r q s t e f = (e ∙ sym f, refl)
@@ -127,7 +133,7 @@ put-said κs a r q s t e f = wrote e f
 module _ (book : List ℕ) (r q : Roll) (k l m n k′ l′ m′ n′ : List ℕ) where
   same-roll : (v : Verdict) → Rolled book v k l m n r → Rolled book v k′ l′ m′ n′ q → r ≡ q
   same-roll (Refused number place) e f = e ∙ sym f
-  same-roll (Accepted terms cs) e f = λ i. record { refusal = (e .0 ∙ sym (f .0)) i; count = (e .1 .counted ∙ sym (f .1 .counted)) i }
+  same-roll (Accepted terms cs) e f = λ i. record { refusal = (e .0 ∙ sym (f .0)) i; count = (e .1 .counted ∙ sym (f .1 .counted)) i; down = (e .2 ∙ sym (f .2)) i }
 
 pub read-roll : Determined roll.read_roll.ended roll.read_roll.Reads.Learnt
 read-roll κs a r q s t e f = (
@@ -140,7 +146,7 @@ pub standing-of : Determined report.standing_of.ended report.standing_of.Reads.L
 standing-of κs a r q s t e f = (e ∙ sym f, refl)
 
 pub report-length : Determined report.report_length.ended report.report_length.Reads.Learnt
-report-length κs a r q s t e f = (e [] ∙ sym (f []), refl)
+report-length κs a r q s t e f = (e ∙ sym f, refl)
 
 pub put-sheet : Determined report.put_sheet.ended report.put_sheet.Reads.Learnt
 put-sheet κs a r q s t e f = wrote e f

@@ -15,13 +15,14 @@ use Rattle.rules.specs.Figures.{numberAfter, fen, lots, number}
 use Rattle.rules.specs.Stamp.{stamp, stampNumber}
 use Rattle.rules.specs.Opening.{upToBlank, afterBlank}
 use Rattle.rules.specs.Codes.{same}
-use Rattle.rules.specs.Book.{Customer, Group, Nobody, Open, DueK, DueH, DueQ, DueTrade, begun, held, traded}
+use Rattle.rules.specs.Book.{Customer, Group, Nobody, Open, DueI, DueK, DueH, DueQ, DueSeat, DueTrade, begun, seatAt, joinedBy, traded}
 use Rattle.rules.specs.Book.{Due, AtTerm, InGroup, Term, DueD, DueX, DueS, DueL, DueU, DueV, noTerms, locked, withDecimals, settled, withLoss, withEdge1, withEdge2}
 use Rattle.rules.specs.Book.{Stage, Reading, Ended}
 use Rattle.laws.specs.Fields.{sizeAt}
 use Rattle.promises.specs.Reasons.{customersRead, First, Sound}
 
--- What a sound field adds to what was read: one of the terms, the customer's K, H, Q or a trade, or at C and Z the customer before it.
+-- What a sound field adds to what was read: one of the terms, a seat's I, K, H or Q, with which the customer has it, a trade, or at C and Z the
+-- customer before it.
 
 abbrev pub withTerm : Term → Terms → List ℕ → Due
 withTerm DueD ts v = AtTerm DueX (locked ts (same v (bytes "D")))
@@ -31,12 +32,11 @@ withTerm DueL ts v = AtTerm DueU (withLoss ts (number v))
 withTerm DueU ts v = AtTerm DueV (withEdge1 ts (number v))
 withTerm DueV ts v = InGroup (withEdge2 ts (number v)) [] Nobody
 
-abbrev pub withPart : Group → ℕ → List ℕ → Group
-withPart Nobody t v = Nobody
-withPart (Open DueK c) t v = Open DueH (held c (record { long = lots (number v); short = c .position .short; unfilled = c .position .unfilled }))
-withPart (Open DueH c) t v = Open DueQ (held c (record { long = c .position .long; short = lots (number v); unfilled = c .position .unfilled }))
-withPart (Open DueQ c) t v = Open DueTrade (held c (record { long = c .position .long; short = c .position .short; unfilled = lots (number v) }))
-withPart (Open DueTrade c) t v =
+abbrev pub withSeat : List ℕ → Customer → Group
+withSeat v c = Open (DueK (seatAt v 0 0 0)) c
+
+abbrev pub withTrade : ℕ → List ℕ → Customer → Group
+withTrade t v c =
     let rest = afterBlank v in
     let made = afterBlank rest in
     Open DueTrade (traded c (record {
@@ -46,11 +46,20 @@ withPart (Open DueTrade c) t v =
       stamp = stamp (stampNumber (numberAfter 0 (upToBlank made)) (numberAfter 0 (afterBlank made)));
     }))
 
+abbrev pub withPart : Group → ℕ → List ℕ → Group
+withPart Nobody t v = Nobody
+withPart (Open DueI c) t v = withSeat v c
+withPart (Open (DueK s) c) t v = Open (DueH (seatAt (s .code) (number v) 0 0)) c
+withPart (Open (DueH s) c) t v = Open (DueQ (seatAt (s .code) (s .position .long .0) (number v) 0)) c
+withPart (Open (DueQ s) c) t v = Open DueSeat (joinedBy c (seatAt (s .code) (s .position .long .0) (s .position .short .0) (number v)))
+withPart (Open DueSeat c) t v = cond (is "I" t) (withSeat v c) (withTrade t v c)
+withPart (Open DueTrade c) t v = withTrade t v c
+
 abbrev pub leads : Due → ℕ → List ℕ → Stage
 leads (AtTerm term ts) t v = Reading (withTerm term ts v)
 leads (InGroup terms cs g) t v =
     let all = customersRead (InGroup terms cs g) in
-    cond (is "C" t) (Reading (InGroup terms all (Open DueK (begun v))))
+    cond (is "C" t) (Reading (InGroup terms all (Open DueI (begun v))))
     (cond (is "Z" t) (Ended terms all)
     (Reading (InGroup terms cs (withPart g t v))))
 

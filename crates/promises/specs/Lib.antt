@@ -24,4 +24,6 @@ pub mod Layouts
 pub mod Room
 pub mod Fair
 pub mod Statement
+pub mod ReportRead
+pub mod ReportStated
 pub mod Stated

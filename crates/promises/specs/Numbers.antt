@@ -22,7 +22,7 @@ use Rattle.promises.specs.Refused.{decided, refused-exactly, accepted-ex
 
 module _ (s : List ℕ) (room : ℕ) where
   pub data Why : ℕ → ℕ → Type 0 where
-    -- 1 to 10 and 12
+    -- 1 to 10, 12 and 13
     by-the-book : {n place : ℕ} → Given s n place → Why n place
     -- 11: "the report is longer than the lent buffer", "the length needed"
     no-room :

@@ -9,7 +9,6 @@ use lib.Dec.{ltb}
 use borrow.Author.Tests.{le-ltb, ltb-false}
 use native.Mathlib.Omega.{arith}
 use Rattle.rules.specs.declared.Terms.{Terms}
-use Rattle.rules.specs.Figures.{lots}
 use Rattle.rules.specs.Book.{Customer, Verdict, Refused, Accepted, judge}
 use Rattle.rules.specs.Cascade.{Outcome, outcome}
 use Rattle.rules.specs.Report.{report}
@@ -18,7 +17,7 @@ use Rattle.laws.specs.Sane.{refused-above}
 
 -- nobody, where an index is none of the book's
 abbrev pub noCustomer : Customer
-noCustomer = record { code = []; position = record { long = lots 0; short = lots 0; unfilled = lots 0 }; trades = [] }
+noCustomer = record { code = []; seats = []; trades = [] }
 
 abbrev pub outcomeIn : Verdict → Outcome
 outcomeIn (Refused n place) = record { total = 0; residue = 0; lines = [] }

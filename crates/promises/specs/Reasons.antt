@@ -1,4 +1,4 @@
--- docs/RULES.md, sections 6 and 7. Document 01, "Refusal numbers", and request [4]: for each rule that one field can break a test of its own, and the order of the rules.
+-- docs/RULES.md, sections 6 and 7. Document 01, "Refusal numbers", and requests [4] and [5]: for each rule that one field can break a test of its own, and the order of the rules.
 -- Assumes nothing.
 use Prim.Native.Nat.{ℕ, _*_}
 use Prim.Native.Char.{Char}
@@ -10,17 +10,17 @@ use lib.Dec.{leb, ltb, eqb}
 use Rattle.rules.specs.declared.Terms.{Terms}
 use Rattle.rules.specs.declared.Form.{Form}
 use Rattle.rules.specs.Refusal as refusal
-use Rattle.rules.specs.Limits.{mostCustomers}
+use Rattle.rules.specs.Limits.{mostCustomers, mostSeats}
 use Rattle.rules.specs.Text.{is, bytes}
 use Rattle.rules.specs.Figures.{numberAfter, priceForm, rateForm, heldForm, tradedForm, has, behindPoint, number, isWritten, inRange}
 use Rattle.rules.specs.Stamp.{digitsOf, isDay, isTime}
 use Rattle.rules.specs.Opening.{upToBlank, afterBlank}
 use Rattle.rules.specs.Codes.{isCode, same}
-use Rattle.rules.specs.Book.{Customer, uncovered, given, Nobody, Open, DueK, DueH, DueQ, DueTrade, begun}
+use Rattle.rules.specs.Book.{Seat, Customer, uncovered, given, seated, Nobody, Open, DueI, DueK, DueH, DueQ, DueSeat, DueTrade, begun, seatAt}
 use Rattle.rules.specs.Book.{Due, AtTerm, InGroup, DueD, DueX, DueS, DueL, DueU, DueV}
 
--- What was read before the field: the terms; the customer whose group is open, or nobody, who has no lots and no trades; and the customers up to
--- a C or Z that stands here, with the one whose group it closes.
+-- What was read before the field: the terms; the customer whose group is open, or nobody, who has no seats and no trades; the seat of which K, H or Q
+-- is due, or one without lots; and the customers up to a C or Z that stands here, with the one whose group it closes.
 
 abbrev pub termsRead : Due → Terms
 termsRead (AtTerm term ts) = ts
@@ -31,13 +31,23 @@ customerRead (AtTerm term ts) = begun []
 customerRead (InGroup terms cs Nobody) = begun []
 customerRead (InGroup terms cs (Open part c)) = c
 
+abbrev pub seatRead : Due → Seat
+seatRead (AtTerm term ts) = seatAt [] 0 0 0
+seatRead (InGroup terms cs Nobody) = seatAt [] 0 0 0
+seatRead (InGroup terms cs (Open DueI c)) = seatAt [] 0 0 0
+seatRead (InGroup terms cs (Open (DueK s) c)) = s
+seatRead (InGroup terms cs (Open (DueH s) c)) = s
+seatRead (InGroup terms cs (Open (DueQ s) c)) = s
+seatRead (InGroup terms cs (Open DueSeat c)) = seatAt [] 0 0 0
+seatRead (InGroup terms cs (Open DueTrade c)) = seatAt [] 0 0 0
+
 abbrev pub customersRead : Due → List Customer
 customersRead (AtTerm term ts) = []
 customersRead (InGroup terms cs Nobody) = cs
 customersRead (InGroup terms cs (Open part c)) = cs ++ c ∷ []
 
--- "Terms, each once: D, S, L, U, V", and "X after D", then groups of "C, K, H, Q, then opening trades, each B or A", then "Z": the tags that may
--- stand where
+-- "Terms, each once: D, S, L, U, V", and "X after D", then groups: "After C a group now has 1 to 4 seats, each an I field .. with its own K, H, Q; the
+-- customer's trades follow", each B or A; then "Z". The tags that may stand where; "a fifth seat is 3"
 abbrev pub belongs : Due → ℕ → Bool
 belongs (AtTerm DueD ts) t = is "D" t
 belongs (AtTerm DueX ts) t = is "X" t
@@ -46,9 +56,11 @@ belongs (AtTerm DueL ts) t = is "L" t
 belongs (AtTerm DueU ts) t = is "U" t
 belongs (AtTerm DueV ts) t = is "V" t
 belongs (InGroup terms cs Nobody) t = is "C" t || is "Z" t
-belongs (InGroup terms cs (Open DueK c)) t = is "K" t
-belongs (InGroup terms cs (Open DueH c)) t = is "H" t
-belongs (InGroup terms cs (Open DueQ c)) t = is "Q" t
+belongs (InGroup terms cs (Open DueI c)) t = is "I" t
+belongs (InGroup terms cs (Open (DueK s) c)) t = is "K" t
+belongs (InGroup terms cs (Open (DueH s) c)) t = is "H" t
+belongs (InGroup terms cs (Open (DueQ s) c)) t = is "Q" t
+belongs (InGroup terms cs (Open DueSeat c)) t = is "C" t || is "Z" t || is "B" t || is "A" t || is "I" t && ltb (length (c .seats)) mostSeats
 belongs (InGroup terms cs (Open DueTrade c)) t = is "C" t || is "Z" t || is "B" t || is "A" t
 
 -- a field of this letter stands here, and it belongs
@@ -70,14 +82,15 @@ isTrade x v =
     let made = afterBlank rest in
     isFigure (priceForm x) (upToBlank v) && isFigure tradedForm (upToBlank rest) && isStamp (upToBlank made) (afterBlank made)
 
--- the table of tags and values, with "X, one byte 0 or 2", by which every price has x decimals, and "Z, length 0"; no other tag has a form
+-- the table of tags and values, with "X, one byte 0 or 2", by which every price has x decimals, "I .. formed as a customer code", and "Z, length 0"; no
+-- other tag has a form
 abbrev pub isOf : ℕ → ℕ → List ℕ → Bool
 isOf x t v =
     cond (is "D" t) (same v (bytes "D") || same v (bytes "U"))
     (cond (is "X" t) (same v (bytes "0") || same v (bytes "2"))
     (cond (is "S" t) (isFigure (priceForm x) v)
     (cond (is "L" t || is "U" t || is "V" t) (isFigure rateForm v)
-    (cond (is "C" t) (isCode v)
+    (cond (is "C" t || is "I" t) (isCode v)
     (cond (is "K" t || is "H" t || is "Q" t) (isFigure heldForm v)
     (cond (is "B" t || is "A" t) (isTrade x v)
     (cond (is "Z" t) (eqb (length v) 0) true)))))))
@@ -112,14 +125,14 @@ rule6 = rule refusal.edges (λ due t v. stands "V" due t && isFigure rateForm v 
 abbrev pub rule7 : Rule
 rule7 = rule refusal.givenBefore (λ due t v. stands "C" due t && given v (customersRead due))
 
--- "Q exceeds K when locked down, or H when locked up"
+-- "Q exceeds K when locked down, or H when locked up", and "test 8 is per seat"
 abbrev pub rule8 : Rule
 rule8 =
     rule refusal.overdrawn (λ due t v.
-    let p = customerRead due .position in
+    let p = seatRead due .position in
     stands "Q" due t && isFigure heldForm v && ltb (cond (termsRead due .down) (p .long .0) (p .short .0)) (number v))
 
--- "the customer's opening trades on the side of its net position sum to less than that position", "at C or Z after a customer"
+-- "the customer's opening trades on the side of its net position sum to less than that position", "at C or Z after a customer"; "test 9 use the sums"
 abbrev pub rule9 : Rule
 rule9 = rule refusal.uncovered (λ due t v. (stands "C" due t || stands "Z" due t) && uncovered (customerRead due))
 
@@ -135,10 +148,14 @@ rule12 =
     let price = number (upToBlank v) in
     (stands "B" due t || stands "A" due t) && isTrade (termsRead due .decimals) v && (ltb (5 * s) price || ltb (5 * price) s))
 
+-- "a seat code twice in one customer", and the same code at two customers is good
+abbrev pub rule13 : Rule
+rule13 = rule refusal.seatTwice (λ due t v. stands "I" due t && seated v (customerRead due .seats))
+
 -- "For one field: 2, 3, then (at C or Z after a customer) 9 for that customer, then 10, 4, 5, then 6 at V, 7 at C, 8 at Q", and "12, at the trade's
--- tag, after 4 and 5 for that field". A field has a tag and a value only where 2 is not broken
+-- tag, after 4 and 5 for that field", and "13 .. at its I, after 5". A field has a tag and a value only where 2 is not broken
 abbrev pub inOrder : List Rule
-inOrder = rule3 ∷ rule9 ∷ rule10 ∷ rule4 ∷ rule5 ∷ rule12 ∷ rule6 ∷ rule7 ∷ rule8 ∷ []
+inOrder = rule3 ∷ rule9 ∷ rule10 ∷ rule4 ∷ rule5 ∷ rule12 ∷ rule13 ∷ rule6 ∷ rule7 ∷ rule8 ∷ []
 
 module _ (due : Due) (t : ℕ) (v : List ℕ) where
   -- of rules in order, the first that the field breaks has number n

@@ -23,12 +23,12 @@ use Rattle.promises.specs.Refused.{accepted-exactly}
 use Rattle.promises.specs.Numbers.{Why, by-the-book, no-room}
 use Rattle.promises.specs.Demands.{demand-1}
 
--- T and R, then C, E and O of each customer
+-- T and R, then of each customer C, E and O, and I and J of each of four seats
 abbrev pub reportRoom : ℕ
-reportRoom = 12 + 12 + 256 * (15 + 4 + 10)
+reportRoom = 13 + 13 + 256 * (15 + 4 + 10 + 4 * (15 + 10))
 
 -- the gate holds the header's number to this one
-pub in-figures : reportRoom ≡ 7_448
+pub in-figures : reportRoom ≡ 33_050
 in-figures = refl
 
 pub report-fits : (s : List ℕ) (terms : Terms) (cs : List Customer) → judge s ≡ Accepted terms cs → length (report (outcome terms cs)) ≤ reportRoom

@@ -14,10 +14,12 @@ use Rattle.rules.specs.declared.Terms.{Terms}
 use Rattle.rules.specs.declared.Trade.{Trade}
 use Rattle.rules.specs.Refusal as refusal
 use Rattle.rules.specs.Text.{is}
+use Rattle.rules.specs.Limits.{mostSeats}
 use Rattle.rules.specs.Figures.{priceForm, rateForm, heldForm, has}
-use Rattle.rules.specs.Book.{Customer, uncovered, astray, Step, Next, refuse, Stage, Reading, Ended, goesOn, ends, step}
-use Rattle.rules.specs.Book.{Group, Nobody, Open, DueK, DueH, DueQ, DueTrade, within, traded}
+use Rattle.rules.specs.Book.{Seat, Customer, uncovered, astray, Step, Next, refuse, Stage, Reading, Ended, goesOn, ends, step}
+use Rattle.rules.specs.Book.{Group, Nobody, Open, DueI, DueK, DueH, DueQ, DueSeat, DueTrade, within, traded}
 use Rattle.rules.specs.Book.{Due, AtTerm, InGroup, Term, DueD, DueX, DueS, DueL, DueU, DueV, locked, withDecimals}
+use Rattle.laws.specs.ByTest.{by-test}
 use Rattle.promises.specs.Reasons.{isFigure, Rule, inOrder}
 use Rattle.promises.specs.Given.{withPart, leads}
 use Rattle.promises.specs.Chains.{figure-chain, lock-chain, places-chain, last-chain, judged-chain}
@@ -59,25 +61,61 @@ longer [] = refl
 longer (x ∷ v) = rw (lt-ltb 0 (length (x ∷ v)) (omega arith), ne-eqb (length (x ∷ v)) 0 (λ e. omega arith)) refl
 
 module _ (terms : Terms) (cs : List Customer) where
-  -- K, H, Q and the trades: not C, not Z
+  -- the seats and the trades: not C, not Z
   abbrev Within : Group → ℕ → List ℕ → Type 0
   Within g t v = within terms g t v ≡ asked (InGroup terms cs g) t v inOrder (Next (withPart g t v))
+
+  -- a trade, after the last seat or after another trade
+  abbrev far : Trade → Bool
+  far x = astray (terms .settlement) (x .price)
+
+  abbrev tradedWith : Customer → Trade → Step Group
+  tradedWith c x = Next (Open DueTrade (traded c x))
+
+  -- a seat's I, K, H and Q, a trade or another seat after it, and a trade after another
+  asked-I : (c : Customer) (t : ℕ) (v : List ℕ) → Within (Open DueI c) t v
+  unfolding within
+  asked-I c t v = by-tag "I" t (λ x. Within (Open DueI c) x v) refl (λ k. rw k refl)
+
+  asked-K : (s : Seat) (c : Customer) (t : ℕ) (v : List ℕ) → Within (Open (DueK s) c) t v
+  unfolding within
+  asked-K s c t v = by-tag "K" t (λ x. Within (Open (DueK s) c) x v) (figure-chain heldForm v _) (λ k. rw k refl)
+
+  asked-H : (s : Seat) (c : Customer) (t : ℕ) (v : List ℕ) → Within (Open (DueH s) c) t v
+  unfolding within
+  asked-H s c t v = by-tag "H" t (λ x. Within (Open (DueH s) c) x v) (figure-chain heldForm v _) (λ k. rw k refl)
+
+  asked-Q : (s : Seat) (c : Customer) (t : ℕ) (v : List ℕ) → Within (Open (DueQ s) c) t v
+  unfolding within
+  asked-Q s c t v =
+      by-tag "Q" t (λ x. Within (Open (DueQ s) c) x v)
+      (figure-chain heldForm v _ ∙ ap (refuse refusal.comma (has "," v)) (last-chain refusal.malformed refusal.overdrawn (isFigure heldForm v) _ _))
+      (λ k. rw k refl)
+
+  asked-seat : (c : Customer) (t : ℕ) (v : List ℕ) → is "C" t ≡ false → is "Z" t ≡ false → Within (Open DueSeat c) t v
+  unfolding within
+  asked-seat c t v e f =
+      by-tag "I" t (λ x. Within (Open DueSeat c) x v) (by-test (ltb (length (c .seats)) mostSeats) (λ k. rw k refl) (λ k. rw k refl)) (λ i.
+      by-tag "B" t (λ x. Within (Open DueSeat c) x v) (judged-chain (terms .decimals) true v far (tradedWith c)) (λ k.
+      by-tag "A" t (λ x. Within (Open DueSeat c) x v) (judged-chain (terms .decimals) false v far (tradedWith c)) (λ l.
+      rw (e, f, i, k, l) refl)))
+
+  asked-trade : (c : Customer) (t : ℕ) (v : List ℕ) → is "C" t ≡ false → is "Z" t ≡ false → Within (Open DueTrade c) t v
+  unfolding within
+  asked-trade c t v e f =
+      by-tag "B" t (λ x. Within (Open DueTrade c) x v) (judged-chain (terms .decimals) true v far (tradedWith c)) (λ k.
+      by-tag "A" t (λ x. Within (Open DueTrade c) x v) (judged-chain (terms .decimals) false v far (tradedWith c)) (λ l.
+      rw (e, f, k, l) refl))
 
   asked-within : (g : Group) (t : ℕ) (v : List ℕ) → is "C" t ≡ false → is "Z" t ≡ false → Within g t v
   unfolding within
   asked-within Nobody t v e f = rw (e, f) refl
-  asked-within (Open DueK c) t v e f = by-tag "K" t (λ x. Within (Open DueK c) x v) (figure-chain heldForm v _) (λ k. rw k refl)
-  asked-within (Open DueH c) t v e f = by-tag "H" t (λ x. Within (Open DueH c) x v) (figure-chain heldForm v _) (λ k. rw k refl)
-  asked-within (Open DueQ c) t v e f =
-      by-tag "Q" t (λ x. Within (Open DueQ c) x v)
-      (figure-chain heldForm v _ ∙ ap (refuse refusal.comma (has "," v)) (last-chain refusal.malformed refusal.overdrawn (isFigure heldForm v) _ _))
-      (λ k. rw k refl)
-  asked-within (Open DueTrade c) t v e f =
-      let far : Trade → Bool = λ x. astray (terms .settlement) (x .price) in
-      let next : Trade → Step Group = λ x. Next (Open DueTrade (traded c x)) in
-      by-tag "B" t (λ x. Within (Open DueTrade c) x v) (judged-chain (terms .decimals) true v far next) (λ k.
-      by-tag "A" t (λ x. Within (Open DueTrade c) x v) (judged-chain (terms .decimals) false v far next) (λ l.
-      rw (e, f, k, l) refl))
+  asked-within (Open DueI c) t v e f = asked-I c t v
+  asked-within (Open (DueK s) c) t v e f = asked-K s c t v
+  asked-within (Open (DueH s) c) t v e f = asked-H s c t v
+  asked-within (Open (DueQ s) c) t v e f = asked-Q s c t v
+  asked-within (Open DueSeat c) t v e f = asked-seat c t v e f
+  asked-within (Open DueTrade c) t v e f = asked-trade c t v e f
 
   goes-asked : (due : Due) (t : ℕ) (v : List ℕ) (rs : List Rule) (g : Group) → goesOn terms cs (asked due t v rs (Next g)) ≡ asked due t v rs (Next (Reading (InGroup terms cs g)))
   goes-asked due t v [] g = refl
@@ -100,10 +138,12 @@ module _ (terms : Terms) (cs : List Customer) where
   asked-C : (g : Group) (v : List ℕ) → Asked (InGroup terms cs g) (code "C") v
   unfolding step
   asked-C Nobody v = refl
-  asked-C (Open DueK c) v = refl
-  asked-C (Open DueH c) v = refl
-  asked-C (Open DueQ c) v = refl
-  asked-C (Open DueTrade c) v = refl
+  asked-C (Open DueI c) v = refl
+  asked-C (Open (DueK s) c) v = refl
+  asked-C (Open (DueH s) c) v = refl
+  asked-C (Open (DueQ s) c) v = refl
+  asked-C (Open DueSeat c) v = by-test (uncovered c) (λ k. rw k refl) (λ k. rw k refl)
+  asked-C (Open DueTrade c) v = by-test (uncovered c) (λ k. rw k refl) (λ k. rw k refl)
 
   ends-asked : (v : List ℕ) (all : List Customer) → ends terms v all ≡ refuse refusal.malformed (not (eqb (length v) 0)) (Next (Ended terms all))
   ends-asked v all = ap (λ (b : Bool). refuse refusal.malformed b (Next (Ended terms all))) (longer v)
@@ -111,9 +151,11 @@ module _ (terms : Terms) (cs : List Customer) where
   asked-Z : (g : Group) (v : List ℕ) → Asked (InGroup terms cs g) (code "Z") v
   unfolding step
   asked-Z Nobody v = ends-asked v cs
-  asked-Z (Open DueK c) v = refl
-  asked-Z (Open DueH c) v = refl
-  asked-Z (Open DueQ c) v = refl
+  asked-Z (Open DueI c) v = refl
+  asked-Z (Open (DueK s) c) v = refl
+  asked-Z (Open (DueH s) c) v = refl
+  asked-Z (Open (DueQ s) c) v = refl
+  asked-Z (Open DueSeat c) v = ap (refuse refusal.uncovered (uncovered c)) (ends-asked v (cs ++ c ∷ []))
   asked-Z (Open DueTrade c) v = ap (refuse refusal.uncovered (uncovered c)) (ends-asked v (cs ++ c ∷ []))
 
 pub step-asked : (due : Due) (t : ℕ) (v : List ℕ) → step due t v ≡ asked due t v inOrder (Next (leads due t v))
