@@ -10,7 +10,7 @@ import sys
 
 # As in frundavel.h: how long a book may be, and rooms that are always enough for a report and for the words of a refusal.
 LONGEST_BOOK = 60_000
-ROOM = 12 + 12 + 256 * (15 + 4 + 10)
+ROOM = 13 + 13 + 256 * (15 + 4 + 10 + 4 * (15 + 10))
 WORDS = 128
 
 ACCEPTED, REFUSED, FAILED = 0, 1, 2  # exit statuses
@@ -60,15 +60,26 @@ def fields(report):
 
 
 def allotment(library, book):
-    """The total, the residue and for each customer code, standing and offset lots; Refused where the book is refused."""
+    """The total, the residue and for each customer code, standing, offset lots and the lots of each of its seats as (code, lots);
+    Refused where the book is refused."""
     lent = ctypes.create_string_buffer(ROOM)
     answer = library.frundavel_allot(book, len(book), lent, ROOM)
     if answer.number != 0:
         raise Refused(answer.number, answer.place, reason(library, answer, book))
     (_, total), (_, residue), *rest = fields(lent.raw[: answer.length])
-    values = [text for _, text in rest]
-    customers = [(code, standing, int(lots)) for code, standing, lots in zip(values[0::3], values[1::3], values[2::3])]
-    return int(total), int(residue), customers
+    return int(total), int(residue), list(customers_of(rest))
+
+
+def customers_of(rest):
+    """The customers of a report's fields after the first two: C, E, O, and I and J for each seat."""
+    values = {}
+    for tag, text in rest:
+        values[tag] = text
+        if tag == "O":
+            seats = []
+            yield values["C"], values["E"], int(text), seats
+        if tag == "J":
+            seats.append((values["I"], int(text)))
 
 
 def read(name):
@@ -107,7 +118,14 @@ def show(lines):
     sys.stdout.flush()
 
 
-def answered(library, book):
+def lines(customers, with_seats):
+    """The lines of a listing; with a line more for each seat, if these are wanted."""
+    for code, standing, lots, seats in customers:
+        yield f"{code} {standing} {lots}"
+        yield from (f"  {seat} {lots}" for seat, lots in seats if with_seats)
+
+
+def answered(library, book, with_seats):
     """Prints the listing of a book; the reason of a refusal goes to standard error."""
     try:
         total, residue, customers = allotment(library, book)
@@ -115,7 +133,7 @@ def answered(library, book):
         show([f"refused {refused.number} at {refused.place}"])
         say(refused)
         return REFUSED
-    show([f"total {total}", f"left {residue}", *(f"{code} {standing} {lots}" for code, standing, lots in customers)])
+    show([f"total {total}", f"left {residue}", *lines(customers, with_seats)])
     return ACCEPTED
 
 
@@ -131,6 +149,7 @@ def words():
     parser = Words(prog="allot.py", description=__doc__.split("\n\n")[0], add_help=False)
     parser.add_argument("file", nargs="?", default="-", metavar="FILE", help="the book; - or nothing is standard input")
     parser.add_argument("--library", default="libfrundavel.so.0", metavar="FILE", help="the library; without it, the installed one")
+    parser.add_argument("--seats", action="store_true", help="list the lots of each seat too, in a line of its own")
     parser.add_argument("-h", "--help", action="store_true", help="print this text, and end")
     return parser, parser.parse_args()
 
@@ -148,7 +167,7 @@ def run(parser, asked):
         book = read(asked.file)
     except (OSError, ValueError) as error:
         return failed("standard input" if asked.file == "-" else asked.file, error)
-    return answered(library, book)
+    return answered(library, book, asked.seats)
 
 
 def main():

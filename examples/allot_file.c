@@ -118,7 +118,8 @@ static int print_fields(struct bytes *rest, const char *tags)
     return 1;
 }
 
-/* Prints total and residue under their tags, then a line for each customer: code, standing, offset lots. */
+/* Prints total and residue under their tags, then a line for each customer, code, standing, offset lots, and one for each of its seats,
+   two blanks, code, offset lots. */
 static int print_report(struct bytes report)
 {
     int whole;
@@ -127,8 +128,14 @@ static int print_report(struct bytes report)
     whole = print_fields(&report, "T");
     printf("R ");
     whole = whole && print_fields(&report, "R");
-    while (whole && report.size > 0)
-        whole = print_fields(&report, "CEO");
+    while (whole && report.size > 0) {
+        if (report.at[0] != 'I') {
+            whole = print_fields(&report, "CEO");
+            continue;
+        }
+        printf("  ");
+        whole = print_fields(&report, "IJ");
+    }
     return whole ? ACCEPTED : failed("report", "not of its form");
 }
 

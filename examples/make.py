@@ -1,6 +1,7 @@
 #!/usr/bin/env python3
 """Writes the sample books of this folder, each with the listing that documents 01 and 02 give it, NAME.book and NAME.txt, and a refused
-one with the line that the program puts on standard error too, NAME.said.
+one with the line that the program puts on standard error too, NAME.said. seats.seats has the lots of each seat beside the listing, as
+allot.py --seats prints them.
 
 The listings are written out here by hand, from those documents, and the lines from section 16 of docs/RULES.md; none is taken from a
 program. Run it in this folder.
@@ -26,15 +27,22 @@ def silver_terms(lock="D", s="8000"):
     return terms(lock, "0", s, "10.000", "10.000", "5.000")
 
 
+def seated(code, seats, *trades):
+    """A customer by its seats, each with its code and what is held and unfilled there."""
+    held = b"".join(field("I", i) + field("K", k) + field("H", h) + field("Q", q) for i, k, h, q in seats)
+    return field("C", code) + held + b"".join(field(t, v) for t, v in trades)
+
+
 def customer(code, k, h, q, *trades):
-    return field("C", code) + field("K", k) + field("H", h) + field("Q", q) + b"".join(field(t, v) for t, v in trades)
+    """A customer with one seat."""
+    return seated(code, [("M1", k, h, q)], *trades)
 
 
 END = field("Z", "")
 STAMP = " 20250115 1000"  # the one day and time of document 01's cases, with their blanks: 14 bytes
 
 
-def listing(l="8.000", stamp=STAMP, x="2"):
+def listing(l="8.000", stamp=STAMP, x="2", customer=customer):
     return (
         terms(l=l, x=x)
         + customer("W3", "0", "1", "0", ("A", "410.00 1" + stamp))
@@ -114,8 +122,30 @@ def price_bounds():
 AT_BOUNDS = "total 2\nleft 1\nP1 P 2\nW1 1 2\nN1 N 0\nN2 N 0\n"
 
 
+def without_seat(code, k, h, q, *trades):
+    """A customer as books had them before version 0.7.0."""
+    return seated(code, [], ("K", k), ("H", h), ("Q", q), *trades)
+
+
+def seats():
+    """Customers with several seats, of which the smaller codes stand behind."""
+    return (
+        terms()
+        + seated("P1", [("M2", "4", "0", "4"), ("M1", "6", "0", "4"), ("M3", "0", "2", "0")], ("B", "440.00 10" + STAMP))
+        + seated("W1", [("M2", "0", "3", "0"), ("M1", "1", "3", "0")], ("A", "440.00 6" + STAMP))
+        + seated("N1", [("M1", "2", "0", "2"), ("M4", "3", "0", "0")], ("B", "390.00 5" + STAMP))
+        + END
+    )
+
+
+# P1 is long 10 - 2 and has 8 pending; W1 is short 6 - 1 and offers 5. P1's 5 by the unfilled lots 4, 4 and 0 are 2.5, 2.5 and 0, and W1's 5
+# by the lots held short 3 and 3 are 2.5 and 2.5: the spare lot goes to M1, the smaller code.
+OF_SEATS = "total 5\nleft 3\nP1 P 5\nW1 1 5\nN1 N 0\n"
+AT_SEATS = "total 5\nleft 3\nP1 P 5\n  M2 2\n  M1 3\n  M3 0\nW1 1 5\n  M2 2\n  M1 3\nN1 N 0\n  M1 0\n  M4 0\n"
+
+
 def crowd(n):
-    """n customers without a position, of 19 bytes each."""
+    """n customers without a position, of 24 bytes each."""
     return b"".join(customer(f"{1000 + i}", "0", "0", "0") for i in range(n))
 
 
@@ -205,7 +235,27 @@ def opened(row, side, low, high, spread, price):
     return trades, lots
 
 
-def typical_customer(row, number, metal):
+def in_parts(row, number, count):
+    """A number in so many parts, each from 0 on."""
+    cuts = sorted(row.among(0, number) for _ in range(count - 1))
+    return [high - low for low, high in zip([0, *cuts], [*cuts, number])]
+
+
+def over_seats(row, k, h, q, locked):
+    """What is held in all, at one seat or, of one customer in four, at two to four. No seat has more unfilled lots than it holds on the
+    locked side."""
+    count = row.among(2, 4) if row.among(1, 4) == 1 else 1
+    codes = sorted((row.among(0, 99), i) for i in range(count))
+    held = list(zip(in_parts(row, k, count), in_parts(row, h, count)))
+    seats = []
+    for (_, i), lots in zip(codes, held):
+        unfilled = min(q, lots[locked])
+        q -= unfilled
+        seats.append((f"M{10 + i * 7}", str(lots[0]), str(lots[1]), str(unfilled)))
+    return seats
+
+
+def typical_customer(row, places, number, metal):
     """Some of what was opened is still held, and some of what is held on the locked side was offered at the limit price and not filled."""
     _, kinds, spread, price, locked = metal
     side, low, high = kinds[row.among(0, len(kinds) - 1)]
@@ -214,13 +264,14 @@ def typical_customer(row, number, metal):
     most = (k, h)[locked]
     q = row.among(most // 3, most) if row.among(1, 5) > 1 else 0
     code = f"{'ABCDEFGH'[number % 8]}{number * 10_007 % 99_991:05d}" + "XY12"[: row.among(0, 4)]
-    return customer(code, str(k), str(h), str(q), *trades)
+    return seated(code, over_seats(places, k, h, q, locked), *trades)
 
 
 def typical(metal, start):
-    """About 200 customers with several trades each: the size of a real book."""
-    row = Row(start)
-    return metal[0] + b"".join(typical_customer(row, 1 + i, metal) for i in range(204)) + END
+    """About 200 customers with several trades each: the size of a real book. The seats have a row of numbers of their own: how the lots
+    lie over them does not change the listing."""
+    row, places = Row(start), Row(start + 1)
+    return metal[0] + b"".join(typical_customer(row, places, 1 + i, metal) for i in range(204)) + END
 
 
 NOTHING = "total 0\nleft 0\n"
@@ -236,6 +287,7 @@ BOOKS = {
     ),
     "silver-edges": (silver_edges(), AT_EDGES),
     "price-bounds": (price_bounds(), AT_BOUNDS),
+    "seats": (seats(), OF_SEATS),
 }
 # the book, its number and place, and the words for them
 REFUSED = {
@@ -243,30 +295,41 @@ REFUSED = {
     "2-cut": (terms()[:-1], "2 at 33", "the book ends before the end of the tier 2 edge V"),
     "3-tag": (terms() + field("Y", ""), "3 at 41", "a byte that is no tag, or that follows Z"),
     "3-no-decimals": (listing(x=None), "3 at 4", "a tag that does not belong here: the settlement price S"),
+    "3-no-seat": (listing(customer=without_seat), "3 at 46", "a tag that does not belong here: the lots held long K"),
+    "3-fifth-seat": (
+        terms() + seated("A", [(f"M{i}", "1", "1", "0") for i in range(1, 6)]) + END,
+        "3 at 113",
+        "a tag that does not belong here: the seat code I",
+    ),
     "4-comma": (listing("8,000"), "4 at 17", "a comma in the loss edge L"),
     "5-form": (terms(s="00.01") + END, "5 at 8", "not of its form or range: the settlement price S"),
     "5-decimals": (terms(x="1", s="400.0") + END, "5 at 4", "not of its form or range: the decimals X"),
     "5-other-decimals": (
         silver_terms() + customer("A", "0", "0", "0", ("B", "8000.00 1" + STAMP)) + END,
-        "5 at 57",
+        "5 at 62",
         "not of its form or range: the bought trade B",
     ),
     "5-day": (
         terms() + customer("A", "0", "0", "0", ("B", "400.00 1 20250229 1000")) + END,
-        "5 at 57",
+        "5 at 62",
         "not of its form or range: the bought trade B",
     ),
     "5-time": (
         terms() + customer("A", "0", "0", "0", ("B", "400.00 1 20250115 2400")) + END,
-        "5 at 57",
+        "5 at 62",
         "not of its form or range: the bought trade B",
     ),
-    "5-old-form": (listing(stamp=""), "5 at 58", "not of its form or range: the sold trade A"),
+    "5-old-form": (listing(stamp=""), "5 at 63", "not of its form or range: the sold trade A"),
     "6-edges": (terms(u="4.000") + END, "6 at 33", "the tier 1 edge U is not greater than the tier 2 edge V"),
-    "7-twice": (terms() + customer("A", "0", "0", "0") * 2 + END, "7 at 57", "this customer code was given before"),
+    "7-twice": (terms() + customer("A", "0", "0", "0") * 2 + END, "7 at 62", "this customer code was given before"),
     "8-unfilled": (
         terms() + customer("A", "5", "0", "6", ("B", "400.00 5" + STAMP)) + END,
-        "8 at 53",
+        "8 at 58",
+        "the unfilled lots Q exceed the lots held on the locked side",
+    ),
+    "8-one-seat": (
+        terms() + seated("A", [("M1", "9", "0", "3"), ("M2", "1", "0", "2")], ("B", "400.00 10" + STAMP)) + END,
+        "8 at 75",
         "the unfilled lots Q exceed the lots held on the locked side",
     ),
     "9-trades": (
@@ -274,11 +337,16 @@ REFUSED = {
         "9 at 41",
         "this customer's opening trades on its net side sum to less than its net position",
     ),
-    "10-customers": (terms() + crowd(257) + END, "10 at 4905", "more than 256 customers"),
+    "10-customers": (terms() + crowd(257) + END, "10 at 6185", "more than 256 customers"),
     "12-lost-point": (
         terms() + customer("A", "5", "0", "5", ("B", "40000.00 5" + STAMP)) + END,
-        "12 at 57",
+        "12 at 62",
         "this trade's price is above five times the settlement price S or below a fifth of it",
+    ),
+    "13-seat-twice": (
+        terms() + seated("A", [("M1", "1", "1", "0"), ("M2", "1", "1", "0"), ("M1", "1", "1", "0")]) + END,
+        "13 at 79",
+        "this customer has a seat of this code already",
     ),
 }
 
@@ -288,6 +356,7 @@ def write(name, content):
         f.write(content if isinstance(content, bytes) else content.encode("ascii"))
 
 
+write("seats.seats", AT_SEATS)
 write("typical.book", typical(GOLD, 26))
 write("silver.book", typical(SILVER, 3))
 for name, (book, text) in BOOKS.items():

@@ -20,9 +20,9 @@ extern "C" {
 #endif
 
 /* The version. CHANGELOG.md of the source tree says what changed with each. */
-#define FRUNDAVEL_VERSION "0.6.0"
+#define FRUNDAVEL_VERSION "0.7.0"
 #define FRUNDAVEL_VERSION_MAJOR 0
-#define FRUNDAVEL_VERSION_MINOR 6
+#define FRUNDAVEL_VERSION_MINOR 7
 #define FRUNDAVEL_VERSION_PATCH 0
 
 /* A book has at most so many bytes; a longer one is refused with number 1. Reading one byte more than this is enough to see it. */
@@ -30,17 +30,20 @@ extern "C" {
 
 /*
  * A room that is enough for every book. A field is 3 bytes and its value:
- *   T      3 + 9     at most 256 x 1,000,000 lots, 9 digits
- *   R      3 + 9     likewise
+ *   T      3 + 10    at most 256 x 4,000,000 lots, 10 digits
+ *   R      3 + 10    likewise
  *   C, E, O for each of at most 256 customers:
  *          3 + 12    code
  *          3 + 1     standing
+ *          3 + 7     at most 4,000,000 lots, 7 digits
+ *   I, J for each of its at most 4 seats:
+ *          3 + 12    code
  *          3 + 7     at most 1,000,000 lots, 7 digits
- * 12 + 12 + 256 x 29 = 7448
+ * 13 + 13 + 256 x (29 + 4 x 25) = 33050
  * That no report is longer, and that a call with this room never answers 11, is proved (crates/promises/specs/Room.antt: report-fits,
  * room-enough).
  */
-#define FRUNDAVEL_ROOM (12 + 12 + 256 * (15 + 4 + 10))
+#define FRUNDAVEL_ROOM (13 + 13 + 256 * (15 + 4 + 10 + 4 * (15 + 10)))
 
 /* A room that is enough for the words of every refusal: a call of frundavel_reason with it never answers 11 (proved). */
 #define FRUNDAVEL_WORDS 128
@@ -62,7 +65,8 @@ enum frundavel_number {
     FRUNDAVEL_UNCOVERED = 9,
     FRUNDAVEL_TOO_MANY = 10,
     FRUNDAVEL_NO_ROOM = 11,
-    FRUNDAVEL_ASTRAY = 12
+    FRUNDAVEL_ASTRAY = 12,
+    FRUNDAVEL_SEAT_TWICE = 13
 };
 
 /*
@@ -82,7 +86,8 @@ enum frundavel_number {
  *           says
  *        6  U is not greater than V                                         the tag of V
  *        7  a customer code was given before                                the second C tag
- *        8  Q exceeds K when locked down, or H when locked up               the Q tag
+ *        8  Q of a seat exceeds its K when locked down, or its H when       the Q tag
+ *           locked up
  *        9  the customer's opening trades on the side of its net position   its C tag
  *           sum to less than that position
  *       10  a C after 256 customers                                         that C tag
@@ -91,6 +96,8 @@ enum frundavel_number {
  *       12  the price of a trade is above five times S or below a fifth     the trade's tag
  *           of it; every trade is judged, also one that does not count.
  *           At one field 4 and 5 come first
+ *       13  the customer has a seat of that code already; at one field 5    the second I tag
+ *           comes first
  */
 typedef struct frundavel_answer {
     uint64_t number;
@@ -103,11 +110,14 @@ typedef struct frundavel_answer {
  *
  * - Bytes of the buffer after the report are unaltered; on a refusal all of them are.
  * - The report's fields are a one-byte tag, a two-byte length (high byte first) and the value: T total, R residue, then for each
- *   customer in book order C code, E standing (one of P, 1, 2, 3, N) and O offset lots. Numbers are plain digits.
+ *   customer in book order C code, E standing (one of P, 1, 2, 3, N) and O offset lots, and for each of its seats in their order I code
+ *   and J the part of these lots that is the seat's. Numbers are plain digits. Before version 0.7.0 there was no I and no J.
  * - `book` and `report` must not overlap, and must be good for `size` and `room` bytes. A null pointer with length 0 is an empty part.
  *   Any bytes may stand in the book.
  * - The term X of the book, after D, is one byte and says how many decimals every price has, in S and in trades: `2` as in `400.00`, or
  *   `0` for whole figures as in `8000`. Before version 0.5.0 there was no X, and a book without it is refused with 3 at place 4.
+ * - After its code C a customer has one to four seats in the book, each I code, K, H and Q; its trades follow. Its position is that of
+ *   all its seats together. Before version 0.7.0 there was no I, and such a book is refused with 3 at the first K.
  * - The value of a trade in the book is a price, lots, the trading day and the time: `400.00 5 20250115 1000`. A customer's trades may
  *   stand in any order. Before version 0.4.0 a trade had neither day nor time, and the order in the book was that of time.
  * - The call keeps nothing, allocates nothing and calls nothing but memcpy, memmove and memset. It may be called from several threads
@@ -142,7 +152,7 @@ frundavel_answer frundavel_reason(uint64_t number, uint64_t place, const uint8_t
  *   of each is unaltered.
  * - Number and place are those of the table. 11: a run has fewer places than there are customers; place is the number of places needed.
  * - Refused: length 0, and no place of any run is altered.
- * - Lots are at most 1,000,000. They are 64 bits wide as every number here is, so that a column can be summed up as it stands.
+ * - Lots are at most 4,000,000. They are 64 bits wide as every number here is, so that a column can be summed up as it stands.
  * - The runs must not overlap one another or the book, and must be good for so many places each. A null pointer with 0 places is an empty
  *   run.
  * - What is said above of memory, threads and the stack holds here too.

@@ -12,8 +12,8 @@ use crate::program::{Program, Tried};
 use crate::rearrange::everything_stays;
 use crate::statement::{Stated, Statement};
 
-/// A room that is enough for every report.
-pub const LARGE: usize = 8192;
+/// A room that is enough for every report: more than the 33,050 bytes of the header.
+pub const LARGE: usize = 34_000;
 
 /// The kinds of checks, in the order in which a book meets them.
 #[derive(Clone, Copy, Debug, PartialEq, Eq)]
@@ -27,6 +27,9 @@ pub enum Check {
     NoneExceeds,
     TiersInTurn,
     ResidueAfterAll,
+    SeatsWithin,
+    SeatsAddUp,
+    SeatsOfNobody,
     Rearranged,
     Columns,
     Runs,
@@ -35,11 +38,14 @@ pub enum Check {
 }
 
 impl Check {
-    pub const ALL: [(Check, &'static str); 14] = [
+    pub const ALL: [(Check, &'static str); 17] = [
         (Check::Answer, "number, place and length"),
         (Check::Buffer, "every byte of the buffer"),
         (Check::Guards, "guard bytes"),
-        (Check::Form, "the report's form, and the book's customers"),
+        (
+            Check::Form,
+            "the report's form, and the book's customers and seats",
+        ),
         (
             Check::BothSides,
             "1: both sides are offset for the same lots, the total",
@@ -56,6 +62,18 @@ impl Check {
         (
             Check::ResidueAfterAll,
             "4: a residue when all tiers have given all",
+        ),
+        (
+            Check::SeatsWithin,
+            "5: no seat exceeds its own lots, unfilled or held on the net side",
+        ),
+        (
+            Check::SeatsAddUp,
+            "5: a customer's seats add up to its offset lots",
+        ),
+        (
+            Check::SeatsOfNobody,
+            "5: a customer that takes no part has 0 at each seat",
         ),
         (
             Check::Rearranged,
@@ -80,7 +98,7 @@ impl Check {
 pub struct Counts {
     pub books: u64,
     /// Books by the number answered in a large room; at 11 the calls that were answered so.
-    pub numbers: [u64; 13],
+    pub numbers: [u64; 14],
     pub rooms: u64,
     /// How often each check was made.
     pub checks: [u64; Check::ALL.len()],
@@ -274,7 +292,7 @@ pub fn same_guards<T: Place + PartialEq + LowerHex>(
     same_places(after, got_after).map_err(|told| format!("after the buffer, {told}"))
 }
 
-/// The form of an accepted book's report and the statement's four sentences. Answers what the report states.
+/// The form of an accepted book's report and the statement's five sentences. Answers what the report states.
 fn facts(
     book: &[u8],
     report: &[u8],
@@ -287,5 +305,8 @@ fn facts(
     counts.hold(Check::NoneExceeds, stated.none_exceeds(), call)?;
     counts.hold(Check::TiersInTurn, stated.tiers_in_turn(), call)?;
     counts.hold(Check::ResidueAfterAll, stated.residue_after_all(), call)?;
+    counts.hold(Check::SeatsWithin, stated.seats_within(), call)?;
+    counts.hold(Check::SeatsAddUp, stated.seats_add_up(), call)?;
+    counts.hold(Check::SeatsOfNobody, stated.seats_of_nobody(), call)?;
     Ok(stated.report)
 }

@@ -35,3 +35,13 @@ pub fn groups(bytes: &[u8]) -> Vec<Range<usize>> {
     let pairs = bounds.windows(2).filter(|pair| bytes[pair[0]] == b'C');
     pairs.map(|pair| pair[0]..pair[1]).collect()
 }
+
+/// The seats, each from its `I` to the end of the three fields after it, as far as they are there.
+pub fn seats(bytes: &[u8]) -> Vec<Range<usize>> {
+    let fields = fields(bytes);
+    let starts = (0..fields.len()).filter(|&at| bytes[fields[at].start] == b'I');
+    let last = |at: usize| fields.get(at + 3).or(fields.last());
+    starts
+        .filter_map(|at| Some(fields[at].start..last(at)?.end))
+        .collect()
+}

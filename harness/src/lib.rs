@@ -2,7 +2,7 @@
 //!
 //! 1. [`guarded`] lends a buffer with guard bytes, [`runs`] four runs; [`program`] calls what is tried with them;
 //! 2. [`compare`] holds the answers and every byte against the second program, [`columns`] every place of the runs;
-//! 3. [`statement`] takes a report apart and has the four sentences that hold of it, [`rearrange`] tries demand 3, for
+//! 3. [`statement`] takes a report apart and has the five sentences that hold of it, [`rearrange`] tries demand 3, for
 //!    which [`trades`] has the stamps of trades;
 //! 4. [`run`] does so for many books; [`shrink`] and [`plain`] make a book with a difference small and [`text`] prints it;
 //! 5. [`stored`] holds the calls to books that somebody else has read, and to the reports that are stored beside them.

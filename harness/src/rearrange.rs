@@ -1,5 +1,5 @@
 //! Demand 3 on bytes: the customers in another order, some of standing N left out, each one's trades in another order, and
-//! everything stays.
+//! everything stays, each seat's lots too. A customer's seats keep their order.
 
 use std::cmp::Reverse;
 use std::collections::{HashMap, VecDeque};
@@ -91,7 +91,7 @@ fn dealt(order: &[usize], stamps: &[Stamp]) -> Vec<usize> {
 }
 
 /// Tries one rearrangement of an accepted book, in a room of its report's size: accepted, the same total and
-/// residue, and every customer still in it has the same standing and lots.
+/// residue, and every customer still in it has the same standing and lots, seat by seat.
 pub fn everything_stays(
     program: &mut dyn Program,
     book: &[u8],
@@ -138,5 +138,13 @@ fn first_change(want: &Statement, after: &Statement) -> String {
 
 fn said(line: &Line) -> String {
     let code = line.code.escape_ascii();
-    format!("{code} {} {}", line.standing.escape_ascii(), line.offset)
+    let seats: Vec<String> = (line.seats.iter())
+        .map(|(code, lots)| format!("{} {lots}", code.escape_ascii()))
+        .collect();
+    format!(
+        "{code} {} {} ({})",
+        line.standing.escape_ascii(),
+        line.offset,
+        seats.join(", ")
+    )
 }

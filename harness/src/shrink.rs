@@ -1,11 +1,11 @@
 //! A byte string made small while something stays true of it.
 //!
-//! Greedy and without chance: whole customers go first, then fields; customers are made plain; then bytes of values
+//! Greedy and without chance: whole customers go first, then seats, then fields; customers are made plain; then bytes of values
 //! go (with the length set right), then any bytes. It ends when no step makes it smaller, or after so many tries.
 
 use std::ops::Range;
 
-use crate::fields::{fields, groups, value, HEAD};
+use crate::fields::{fields, groups, seats, value, HEAD};
 use crate::plain::plain_books;
 
 /// No more byte strings than this are tried.
@@ -25,6 +25,7 @@ pub fn shrink(bytes: &[u8], stays: &mut dyn FnMut(&[u8]) -> bool) -> Vec<u8> {
     loop {
         let size = small.len();
         without_units(&mut small, groups, &mut test);
+        without_units(&mut small, seats, &mut test);
         without_units(&mut small, fields, &mut test);
         made_plain(&mut small, &mut test);
         without_value_bytes(&mut small, &mut test);

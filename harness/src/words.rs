@@ -11,10 +11,10 @@ usage: compare COUNT SEED [FROM] [--threads N] [--folder FOLDER] [--through FILE
 Compares COUNT generated books, those of SEED from index FROM (0) on, through the
 product and through the second program: number, place, length and every byte of the
 buffer and of the guards around it, in all rooms that matter. Holds every report to
-four facts, and every accepted book to demand 3: another order of its customers and
-of each one's trades, those of equal day and minute aside, and fewer customers that do
-not take part, change nothing. Then the same of its columns: every place of the four
-runs and of the guards around each, in runs of all sizes.
+the statement's five sentences, and every accepted book to demand 3: another order of
+its customers and of each one's trades, those of equal day and minute aside, and fewer
+customers that do not take part, change nothing. Then the same of its columns: every
+place of the four runs and of the guards around each, in runs of all sizes.
 
   --threads N      threads to compare with; as many as there are processors
   --folder FOLDER  where the small book of a difference is written; the current folder

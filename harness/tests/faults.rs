@@ -5,11 +5,12 @@ mod common;
 use std::path::Path;
 
 use common::{
-    a_fifth_rounded_down, answered_with, bounds_refused, decimals_not_compared,
-    leading_zeros_taken, net_side_judged_alone, right, right_view, s_always_in_fen, six_times_s,
-    ties_by_row_order, ties_by_the_earlier_place, trades_by_clock, trades_by_minute,
-    trades_by_place, trades_from_20_00, twelve_before_five, values, with_values, x_after_s,
-    x_of_1_taken,
+    a_fifth_rounded_down, a_fifth_seat_taken, a_seat_twice_taken, answered_with, bounds_refused,
+    decimals_not_compared, eight_on_the_sum, leading_zeros_taken, net_side_judged_alone, right,
+    right_view, s_always_in_fen, seat_codes_of_the_whole_book, seat_ties_by_place, seats_alike,
+    seats_by_lots_held, seats_by_net, six_times_s, ties_by_row_order, ties_by_the_earlier_place,
+    trades_by_clock, trades_by_minute, trades_by_place, trades_from_20_00, twelve_before_five,
+    values, with_values, x_after_s, x_of_1_taken,
 };
 use harness::compare::{Check, Counts, Difference};
 use harness::fields::{fields, groups, value};
@@ -118,11 +119,11 @@ fn wrong_orders_of_trades_are_found() {
 /// Wrong readings of X and of prices by it: what is refused is answered otherwise.
 #[test]
 fn wrong_readings_of_decimals_are_found() {
-    // Up to X, up to S, and up to a customer's first trade.
+    // Up to X, and up to a customer's first trade.
     let wrong: [(Call, usize); 3] = [
         (x_of_1_taken, 8),
-        (decimals_not_compared, 18),
-        (leading_zeros_taken, 80),
+        (decimals_not_compared, 88),
+        (leading_zeros_taken, 84),
     ];
     for (call, most_bytes) in wrong {
         let (_, difference) = found(call, Check::Answer, most_bytes);
@@ -143,9 +144,49 @@ fn wrong_bounds_of_prices_are_found() {
         (twelve_before_five, 5),
     ];
     for (call, number) in wrong {
-        let (small, difference) = found(call, Check::Answer, 88);
+        let (small, difference) = found(call, Check::Answer, 92);
         assert_eq!(difference.call.want.number, number);
         assert_eq!(groups(&small).len(), 1);
+    }
+}
+
+/// Wrong divisions over seats: the report has other lots at them, or is longer or shorter by a digit.
+#[test]
+fn wrong_divisions_over_seats_are_found() {
+    let wrong: [Call; 4] = [
+        seat_ties_by_place,
+        seats_by_net,
+        seats_by_lots_held,
+        seats_alike,
+    ];
+    for call in wrong {
+        let first = compared(PLAN, call, right_view)
+            .first
+            .expect("a difference");
+        let check = first.difference.check;
+        assert!(matches!(check, Check::Buffer | Check::Answer));
+        let (small, difference) = shrunk(&first, &mut tried(call, right_view));
+        println!("{}", harness::text::difference(&difference, &small));
+        // One with seats, and one to be offset against.
+        assert_eq!(groups(&small).len(), 2);
+        assert!(values(&small, b'I').len() >= 3);
+        assert!(small.len() <= 256, "{} bytes left", small.len());
+    }
+}
+
+/// Wrong readings of seats: what is refused is answered otherwise, or the other way round. One customer shows it, or two.
+#[test]
+fn wrong_readings_of_seats_are_found() {
+    let wrong: [(Call, u64); 4] = [
+        (eight_on_the_sum, 8),
+        (a_fifth_seat_taken, 3),
+        (a_seat_twice_taken, 13),
+        (seat_codes_of_the_whole_book, 11),
+    ];
+    for (call, number) in wrong {
+        let (small, difference) = found(call, Check::Answer, 160);
+        assert_eq!(difference.call.want.number, number);
+        assert!(groups(&small).len() <= 2);
     }
 }
 
@@ -300,7 +341,7 @@ fn offsets_in_place_of_pending_are_found() {
         pending[..count].copy_from_slice(&offsets[..count]);
         answer
     }
-    let (small, difference) = found_view(wrong, Check::Runs, 86);
+    let (small, difference) = found_view(wrong, Check::Runs, 90);
     assert_eq!(groups(&small).len(), 1, "one pending customer shows it");
     assert!(difference.told.contains("pending, first difference at 0"));
 }
@@ -356,7 +397,7 @@ fn a_run_whose_places_are_not_counted_is_found() {
         }
         answer
     }
-    let (_, difference) = found_view(wrong, Check::Columns, 86);
+    let (_, difference) = found_view(wrong, Check::Columns, 90);
     assert_eq!(difference.call.want.number, 11);
 }
 

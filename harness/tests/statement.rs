@@ -1,13 +1,23 @@
 //! Reports taken apart, and each fact with a statement that breaks it alone.
 
 use harness::rearrange::Arrangement;
-use harness::statement::{held, read, Held, Line, Stated, Statement};
+use harness::statement::{held, read, Held, Line, Seat, Stated, Statement};
 
-/// Document 01's listing as a report.
-const LISTING: &[u8] = b"T\0\x019R\0\x011C\0\x02W3E\0\x013O\0\x011C\0\x02P2E\0\x01PO\0\x013\
-C\0\x02W1E\0\x011O\0\x013C\0\x02P1E\0\x01PO\0\x016C\0\x02W2E\0\x012O\0\x015";
+/// Document 01's listing as a report, with one seat for each customer.
+const LISTING: &[u8] = b"T\0\x019R\0\x011\
+C\0\x02W3E\0\x013O\0\x011I\0\x02M1J\0\x011\
+C\0\x02P2E\0\x01PO\0\x013I\0\x02M1J\0\x013\
+C\0\x02W1E\0\x011O\0\x013I\0\x02M1J\0\x013\
+C\0\x02P1E\0\x01PO\0\x016I\0\x02M1J\0\x016\
+C\0\x02W2E\0\x012O\0\x015I\0\x02M1J\0\x015";
 /// The book of that listing.
 const BOOK: &[u8] = include_bytes!("../../examples/listing.book");
+/// The sample with several seats, and its report.
+const SEATS: &[u8] = include_bytes!("../../examples/seats.book");
+const OF_SEATS: &[u8] = b"T\0\x015R\0\x013\
+C\0\x02P1E\0\x01PO\0\x015I\0\x02M2J\0\x012I\0\x02M1J\0\x013I\0\x02M3J\0\x010\
+C\0\x02W1E\0\x011O\0\x015I\0\x02M2J\0\x012I\0\x02M1J\0\x013\
+C\0\x02N1E\0\x01NO\0\x010I\0\x02M1J\0\x010I\0\x02M4J\0\x010";
 
 fn listing() -> Statement {
     read(LISTING).expect("a report")
@@ -50,6 +60,7 @@ fn a_report_is_taken_apart() {
         code: b"P2".to_vec(),
         standing: b'P',
         offset: 3,
+        seats: vec![(b"M1".to_vec(), 3)],
     };
     assert_eq!(statement.lines[1], second);
     assert_eq!(statement.lines.len(), 5);
@@ -58,11 +69,15 @@ fn a_report_is_taken_apart() {
 #[test]
 fn a_customers_stake_is_its_own_lots() {
     let book = customers();
+    let seat = |long, short, unfilled| Seat {
+        code: b"M1".to_vec(),
+        long,
+        short,
+        unfilled,
+    };
     let p1 = Held {
         code: b"P1".to_vec(),
-        long: 8,
-        short: 2,
-        unfilled: 6,
+        seats: vec![seat(8, 2, 6)],
     };
     assert_eq!(book[3], p1);
     let lines = listing().lines;
@@ -71,11 +86,23 @@ fn a_customers_stake_is_its_own_lots() {
         .zip(&lines)
         .map(|(held, line)| held.stake(line.standing));
     assert_eq!(stakes.collect::<Vec<_>>(), [1, 4, 3, 6, 5]);
-    let some = Held { unfilled: 4, ..p1 };
+    // Sums over seats: long 8 and short 2 in all, 4 unfilled.
+    let some = Held {
+        seats: vec![seat(3, 2, 3), seat(5, 0, 1)],
+        ..p1
+    };
     assert_eq!(
         b"P123N".map(|standing| some.stake(standing)),
         [4, 6, 6, 6, 0]
     );
+    assert_eq!(some.weights(b'P'), [3, 1]);
+    assert_eq!(some.weights(b'2'), [3, 5]);
+    assert_eq!(some.weights(b'N'), [0, 0]);
+    let short = Held {
+        seats: vec![seat(1, 2, 0), seat(0, 3, 0)],
+        ..some
+    };
+    assert_eq!(short.weights(b'1'), [2, 3]);
 }
 
 #[test]
@@ -90,8 +117,65 @@ fn the_report_names_the_books_customers() {
 }
 
 #[test]
+fn the_report_names_the_customers_seats() {
+    assert!(Stated::read(OF_SEATS, SEATS).is_ok());
+    // another code, the seats in another order, one left out
+    let other = |from: &[u8], to: &[u8]| {
+        let at = OF_SEATS.windows(from.len()).position(|part| part == from);
+        let at = at.expect("a part of the report");
+        [&OF_SEATS[..at], to, &OF_SEATS[at + from.len()..]].concat()
+    };
+    let (m1, m2, m3) = (
+        b"I\0\x02M1J\0\x013",
+        b"I\0\x02M2J\0\x012",
+        b"I\0\x02M3J\0\x010",
+    );
+    let first = [m2.as_slice(), m1].concat();
+    for wrong in [
+        other(m3, b"I\0\x02M4J\0\x010"),
+        other(&first, &[m1.as_slice(), m2].concat()),
+        other(m3, b""),
+    ] {
+        let told = Stated::read(&wrong, SEATS).expect_err("other seats");
+        assert_eq!(told, "the report's seats are not the book's");
+    }
+}
+
+/// Which sentences of seats hold: within the weights, adding up, none for nobody.
+fn facts_of_seats(lots: [u64; 7]) -> [bool; 3] {
+    let mut stated = Stated::read(OF_SEATS, SEATS).expect("a report");
+    let seats = stated
+        .report
+        .lines
+        .iter_mut()
+        .flat_map(|line| &mut line.seats);
+    for ((_, own), lots) in seats.zip(lots) {
+        *own = lots;
+    }
+    [
+        stated.seats_within().is_ok(),
+        stated.seats_add_up().is_ok(),
+        stated.seats_of_nobody().is_ok(),
+    ]
+}
+
+#[test]
+fn each_sentence_of_seats_can_be_broken() {
+    // P1 has 4, 4 and 0 unfilled at its seats, and W1 holds 3 and 3 short.
+    assert_eq!(facts_of_seats([2, 3, 0, 2, 3, 0, 0]), [true; 3]);
+    assert_eq!(facts_of_seats([4, 1, 0, 2, 3, 0, 0]), [true; 3]);
+    assert_eq!(facts_of_seats([5, 0, 0, 2, 3, 0, 0]), [false, true, true]);
+    assert_eq!(facts_of_seats([2, 2, 1, 2, 3, 0, 0]), [false, true, true]);
+    assert_eq!(facts_of_seats([2, 3, 0, 1, 4, 0, 0]), [false, true, true]);
+    assert_eq!(facts_of_seats([2, 2, 0, 2, 3, 0, 0]), [true, false, true]);
+    assert_eq!(facts_of_seats([2, 3, 0, 3, 3, 0, 0]), [true, false, true]);
+    // N1 holds lots, and none of them is offset.
+    assert_eq!(facts_of_seats([2, 3, 0, 2, 3, 1, 0]), [false, false, false]);
+}
+
+#[test]
 fn bytes_not_of_the_form_are_no_report() {
-    let bad: [&[u8]; 10] = [
+    let bad: [&[u8]; 16] = [
         b"",
         b"T\0\x010",
         b"R\0\x010T\0\x010",
@@ -100,9 +184,17 @@ fn bytes_not_of_the_form_are_no_report() {
         b"T\0\x0200R\0\x010",
         b"T\0\x02+1R\0\x010",
         b"T\0\x010R\0\x010C\0\x01AE\0\x01N",
-        b"T\0\x010R\0\x010C\0\x01AE\0\x01XO\0\x010",
-        b"T\0\x010R\0\x010C\0\x01aE\0\x01NO\0\x010",
+        b"T\0\x010R\0\x010C\0\x01AE\0\x01XO\0\x010I\0\x011J\0\x010",
+        b"T\0\x010R\0\x010C\0\x01aE\0\x01NO\0\x010I\0\x011J\0\x010",
+        // no seat, half a one, a code that is none, no number, J before I, and five seats
+        b"T\0\x010R\0\x010C\0\x01AE\0\x01NO\0\x010",
+        b"T\0\x010R\0\x010C\0\x01AE\0\x01NO\0\x010I\0\x011",
+        b"T\0\x010R\0\x010C\0\x01AE\0\x01NO\0\x010I\0\x01aJ\0\x010",
+        b"T\0\x010R\0\x010C\0\x01AE\0\x01NO\0\x010I\0\x011J\0\x0200",
+        b"T\0\x010R\0\x010C\0\x01AE\0\x01NO\0\x010J\0\x010I\0\x011",
+        b"T\0\x010R\0\x010C\0\x01AE\0\x01NO\0\x010I\0\x011J\0\x010I\0\x012J\0\x010I\0\x013J\0\x010I\0\x014J\0\x010I\0\x015J\0\x010",
     ];
+    assert!(read(b"T\0\x010R\0\x010C\0\x01AE\0\x01NO\0\x010I\0\x011J\0\x010").is_ok());
     for report in bad {
         assert!(read(report).is_err(), "{}", report.escape_ascii());
     }

@@ -72,14 +72,14 @@ static void ask(uint64_t number, uint64_t place, const uint8_t *book, size_t siz
 
 int main(void)
 {
-    static const uint64_t far[] = {13, 255, 256, 260, UINT64_C(1) << 32, (UINT64_C(1) << 32) + 4, UINT64_C(1) << 63, UINT64_MAX};
+    static const uint64_t far[] = {14, 255, 256, 260, UINT64_C(1) << 32, (UINT64_C(1) << 32) + 4, UINT64_C(1) << 63, UINT64_MAX};
     uint8_t book[3] = {'D', 0, 'D'};
     char shown[8];
     size_t i, j;
     unsigned byte;
 
-    for (i = 0; i < 13 + sizeof far / sizeof far[0]; i++) {
-        uint64_t number = i < 13 ? i : far[i - 13];
+    for (i = 0; i < 14 + sizeof far / sizeof far[0]; i++) {
+        uint64_t number = i < 14 ? i : far[i - 14];
 
         for (byte = 0; byte < 256; byte++) {
             book[1] = (uint8_t)byte;

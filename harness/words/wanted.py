@@ -14,7 +14,7 @@ OF_FIELDS, OTHERS = [
     {cells[0]: cells[1:] for line in table.strip().split("\n")[2:] for cells in [[c.strip() for c in line.strip("|").split("|")]]}
     for table in re.findall(r"(?:^\|.*\n)+", SECTION, re.M)
 ]
-assert len(FIELD_OF) == 13 and {*OF_FIELDS, *OTHERS} == {*map(str, range(13)), "all others"}
+assert len(FIELD_OF) == 14 and {*OF_FIELDS, *OTHERS} == {*map(str, range(14)), "all others"}
 
 
 def words(number, byte):
@@ -27,7 +27,7 @@ def words(number, byte):
     return named.replace("FIELD", FIELD_OF[byte]) if byte in FIELD_OF else unnamed
 
 
-for number in [*range(13), 13, 255, 256, 260, 2**32, 2**32 + 4, 2**63, 2**64 - 1]:
+for number in [*range(14), 14, 255, 256, 260, 2**32, 2**32 + 4, 2**63, 2**64 - 1]:
     for byte in range(256):
         print(number, byte, words(number, byte))
     for _ in range(4):

@@ -1,7 +1,7 @@
 //! The three tiers in turn, document 01 "Cascade and whole lots".
 
 use crate::division::{divide, weights, Member};
-use crate::reader::Customer;
+use crate::reader::{Customer, Read, Seat, MOST_SEATS};
 use crate::standing::Standing;
 
 /// An accepted book's result.
@@ -13,10 +13,16 @@ pub struct Allotment<'a> {
     pub residue: u64,
     /// In book order, with their offset lots.
     pub customers: Vec<Customer<'a>>,
+    /// Of all customers, in book order, with their part of these lots.
+    pub seats: Vec<Seat<'a>>,
 }
 
-/// Works the tiers 1, 2, 3 against the pending lots.
-pub fn cascade(mut customers: Vec<Customer>) -> Allotment {
+/// Works the tiers 1, 2, 3 against the pending lots, then divides each customer's offset over its seats.
+pub fn cascade(read: Read) -> Allotment {
+    let Read {
+        mut customers,
+        mut seats,
+    } = read;
     let mut pending = members(&customers, Standing::Pending);
     let counted = weights(&pending);
     let mut total = 0;
@@ -33,10 +39,27 @@ pub fn cascade(mut customers: Vec<Customer>) -> Allotment {
         }
         total += quantity;
     }
+    give_seats(&customers, &mut seats);
     Allotment {
         total,
         residue: counted - total,
         customers,
+        seats,
+    }
+}
+
+/// Request [5]: "The customer's offset is divided over its seats", by the division of the tiers.
+fn give_seats(customers: &[Customer], seats: &mut [Seat]) {
+    let mut members = Vec::with_capacity(MOST_SEATS);
+    for customer in customers {
+        let own = &mut seats[customer.seats.clone()];
+        members.clear();
+        let weighted = own.iter().enumerate();
+        members.extend(weighted.map(|(who, seat)| Member::new(who, seat.code, seat.weight)));
+        divide(customer.offset, &mut members);
+        for member in &members {
+            own[member.who].lots = member.lots;
+        }
     }
 }
 

@@ -50,7 +50,7 @@ pub fn divide(quantity: u64, members: &mut [Member]) {
 fn give_whole_parts(quantity: u64, sum: u64, members: &mut [Member]) -> u64 {
     let mut given = 0;
     for member in members {
-        // 256 customers of 1,000,000 lots make a sum of 2.56e8 and a product of 2.56e14.
+        // 256 customers of 4,000,000 lots make a sum of 1.024e9 and a product of 4.1e15.
         let product = quantity * member.weight;
         member.lots = product / sum;
         member.remainder = product % sum;

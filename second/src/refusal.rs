@@ -15,6 +15,7 @@ pub enum Rule {
     TooManyCustomers = 10,
     NoRoom = 11,
     PriceFar = 12,
+    SeatTwice = 13,
 }
 
 /// A refusal: the first rule broken and its place. The place is an offset in the

@@ -1,5 +1,6 @@
 //! The report, document 01 "Report and listing": `T`, `R`, then for each customer in
-//! book order `C`, `E`, `O`. Report fields are built as the book's are.
+//! book order `C`, `E`, `O`; by request [5] `I` and `J` for each of its seats. Report
+//! fields are built as the book's are.
 
 use crate::cascade::Allotment;
 
@@ -13,7 +14,8 @@ pub fn length(allotment: &Allotment) -> usize {
         let standing = 1;
         3 * HEAD + customer.code.len() + standing + digits(customer.offset)
     });
-    sums + groups.sum::<usize>()
+    let seats = (allotment.seats.iter()).map(|seat| 2 * HEAD + seat.code.len() + digits(seat.lots));
+    sums + groups.sum::<usize>() + seats.sum::<usize>()
 }
 
 /// Writes the report into `out`, which has exactly [`length`] bytes.
@@ -25,6 +27,10 @@ pub fn write(allotment: &Allotment, out: &mut [u8]) {
         pen.field(b'C', customer.code);
         pen.field(b'E', &[customer.standing.byte()]);
         pen.number(b'O', customer.offset);
+        for seat in &allotment.seats[customer.seats.clone()] {
+            pen.field(b'I', seat.code);
+            pen.number(b'J', seat.lots);
+        }
     }
     debug_assert_eq!(pen.at, pen.out.len());
 }

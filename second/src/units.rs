@@ -13,7 +13,7 @@ pub enum Decimals {
     Two,
 }
 
-/// A position, an order or a trade in lots, up to 1,000,000.
+/// A position, an order or a trade in lots, up to 1,000,000; summed up over four seats up to 4,000,000.
 #[derive(Clone, Copy, Debug, PartialEq, Eq, PartialOrd, Ord)]
 pub struct Lots(pub u32);
 

@@ -4,7 +4,7 @@
 use std::fs;
 use std::path::{Path, PathBuf};
 
-const FOLDER: &str = "../../shared/books/4";
+const FOLDER: &str = "../../shared/books/5";
 
 /// The books of the folder.
 fn books() -> Vec<PathBuf> {
@@ -19,7 +19,7 @@ fn books() -> Vec<PathBuf> {
 }
 
 #[test]
-#[ignore = "needs ../shared/books/4 beside the repository"]
+#[ignore = "needs ../shared/books/5 beside the repository"]
 fn every_book_has_its_listing() {
     let books = books();
     for path in &books {
@@ -39,7 +39,7 @@ fn every_book_has_its_listing() {
 /// Where a report is stored, the book is accepted and these are its bytes, in a room of just its size; where none is,
 /// the book is refused.
 #[test]
-#[ignore = "needs ../shared/books/4 beside the repository"]
+#[ignore = "needs ../shared/books/5 beside the repository"]
 fn every_accepted_book_has_its_report() {
     let mut compared = 0;
     for path in books() {

@@ -9,8 +9,9 @@ const NONE: &str = "total 0\nleft 0\nA N 0\n";
 /// The answer to a price of a customer without a position, with this X and S, and where its trade stands.
 fn answered(x: &str, s: &str, price: &str) -> (String, usize) {
     let terms = format!("DD;X{x};S{s};L8.000;U8.000;V4.000;");
-    let front = common::book(&format!("{terms}CA;K0;H0;Q0")).len();
-    let listings = ["B", "A"].map(|tag| listed(&format!("{terms}CA;K0;H0;Q0;{tag}{price} 1@;Z")));
+    let front = common::book(&format!("{terms}CA;I1;K0;H0;Q0")).len();
+    let listings =
+        ["B", "A"].map(|tag| listed(&format!("{terms}CA;I1;K0;H0;Q0;{tag}{price} 1@;Z")));
     assert_eq!(listings[0], listings[1], "S {s}, {price}");
     let [listing, _] = listings;
     (listing, front)
@@ -106,33 +107,42 @@ fn every_trade_is_judged() {
     for terms in [GOLD, GOLD_UP] {
         for price in ["2000.01", "79.99"] {
             // Counted: the only trade, the newest, and the part of an older one.
-            assert_eq!(listed(&format!("{terms}CA;K1;H0;Q0;B{price} 1@;Z")), at(57));
             assert_eq!(
-                listed(&format!("{terms}CA;K1;H0;Q0;B400.00 1@;B{price} 1@;Z")),
-                at(82)
+                listed(&format!("{terms}CA;I1;K1;H0;Q0;B{price} 1@;Z")),
+                at(61)
             );
             assert_eq!(
-                listed(&format!("{terms}CA;K2;H0;Q0;B{price} 5@;B400.00 1@;Z")),
-                at(57)
+                listed(&format!("{terms}CA;I1;K1;H0;Q0;B400.00 1@;B{price} 1@;Z")),
+                at(86)
+            );
+            assert_eq!(
+                listed(&format!("{terms}CA;I1;K2;H0;Q0;B{price} 5@;B400.00 1@;Z")),
+                at(61)
             );
             // Old, by its place and by its day, and so not counted.
             assert_eq!(
-                listed(&format!("{terms}CA;K1;H0;Q0;B{price} 1@;B400.00 1@;Z")),
-                at(57)
+                listed(&format!("{terms}CA;I1;K1;H0;Q0;B{price} 1@;B400.00 1@;Z")),
+                at(61)
             );
             assert_eq!(
                 listed(&format!(
-                    "{terms}CA;K0;H1;Q0;A400.00 1@;A{price} 1 20010101 0900;Z"
+                    "{terms}CA;I1;K0;H1;Q0;A400.00 1@;A{price} 1 20010101 0900;Z"
                 )),
-                at(82)
+                at(86)
             );
             // On the other side, flat, and with nothing held.
             assert_eq!(
-                listed(&format!("{terms}CA;K1;H0;Q0;B400.00 1@;A{price} 1@;Z")),
-                at(82)
+                listed(&format!("{terms}CA;I1;K1;H0;Q0;B400.00 1@;A{price} 1@;Z")),
+                at(86)
             );
-            assert_eq!(listed(&format!("{terms}CA;K5;H5;Q0;A{price} 1@;Z")), at(57));
-            assert_eq!(listed(&format!("{terms}CA;K0;H0;Q0;B{price} 1@;Z")), at(57));
+            assert_eq!(
+                listed(&format!("{terms}CA;I1;K5;H5;Q0;A{price} 1@;Z")),
+                at(61)
+            );
+            assert_eq!(
+                listed(&format!("{terms}CA;I1;K0;H0;Q0;B{price} 1@;Z")),
+                at(61)
+            );
         }
     }
 }
@@ -155,21 +165,21 @@ fn in_one_field_4_and_5_come_first() {
         ("140000.00 1@", 5),
         ("40000.00 1@", 12),
     ] {
-        let book = format!("{GOLD}CA;K0;H0;Q0;B{value};Z");
+        let book = format!("{GOLD}CA;I1;K0;H0;Q0;B{value};Z");
         assert_eq!(
             listed(&book),
-            format!("refused {number} at 57\n"),
+            format!("refused {number} at 61\n"),
             "{value}"
         );
     }
     // Without a point in a book of fen it is 5, and with one in a book of yuan.
     assert_eq!(
-        listed(&format!("{SILVER}CA;K0;H0;Q0;B80000.00 1@;Z")),
-        "refused 5 at 57\n"
+        listed(&format!("{SILVER}CA;I1;K0;H0;Q0;B80000.00 1@;Z")),
+        "refused 5 at 61\n"
     );
     assert_eq!(
-        listed(&format!("{SILVER}CA;K0;H0;Q0;B80000 1@;Z")),
-        "refused 12 at 57\n"
+        listed(&format!("{SILVER}CA;I1;K0;H0;Q0;B80000 1@;Z")),
+        "refused 12 at 61\n"
     );
 }
 
@@ -186,38 +196,38 @@ fn it_comes_at_its_own_field() {
         "CA;Z",
         "",
     ] {
-        let book = format!("{GOLD}CA;K9;H0;Q0;B40000.00 1@;{later}");
-        assert_eq!(listed(&book), "refused 12 at 57\n", "{later}");
+        let book = format!("{GOLD}CA;I1;K9;H0;Q0;B40000.00 1@;{later}");
+        assert_eq!(listed(&book), "refused 12 at 61\n", "{later}");
     }
     // After an earlier field's.
     assert_eq!(
-        listed(&format!("{GOLD}CA;K9;H0;Q10;B40000.00 1@;Z")),
-        "refused 8 at 53\n"
+        listed(&format!("{GOLD}CA;I1;K9;H0;Q10;B40000.00 1@;Z")),
+        "refused 8 at 57\n"
     );
     assert_eq!(
-        listed(&format!("{GOLD}CA;K9;H0;Q0;B400.00 0@;B40000.00 1@;Z")),
-        "refused 5 at 57\n"
+        listed(&format!("{GOLD}CA;I1;K9;H0;Q0;B400.00 0@;B40000.00 1@;Z")),
+        "refused 5 at 61\n"
     );
     // 9 of an earlier customer is an earlier field's.
-    let nine = format!("{GOLD}CA;K9;H0;Q0;B400.00 1@;CB;K0;H0;Q0;B40000.00 1@;Z");
+    let nine = format!("{GOLD}CA;I1;K9;H0;Q0;B400.00 1@;CB;I1;K0;H0;Q0;B40000.00 1@;Z");
     assert_eq!(listed(&nine), "refused 9 at 41\n");
 }
 
 #[test]
 fn a_value_cut_is_2_and_11_comes_last() {
-    let book = common::book(&format!("{GOLD}CA;K0;H0;Q0;B40000.00 1@;Z"));
+    let book = common::book(&format!("{GOLD}CA;I1;K0;H0;Q0;B40000.00 1@;Z"));
     let cut = &book[..book.len() - 4];
-    assert_eq!(common::listed_bytes(cut), "refused 2 at 57\n");
+    assert_eq!(common::listed_bytes(cut), "refused 2 at 61\n");
     assert_eq!(second::allot(&book, 0).number, 12);
 }
 
 /// A wrong settlement price makes the first trade far.
 #[test]
 fn s_that_lost_its_point() {
-    let book = |s: &str| format!("DD;X2;S{s};L8.000;U8.000;V4.000;CA;K0;H0;Q0;B400.00 1@;Z");
+    let book = |s: &str| format!("DD;X2;S{s};L8.000;U8.000;V4.000;CA;I1;K0;H0;Q0;B400.00 1@;Z");
     assert_eq!(listed(&book("400.00")), NONE);
-    assert_eq!(listed(&book("40000.00")), "refused 12 at 59\n");
-    assert_eq!(listed(&book("4.00")), "refused 12 at 55\n");
+    assert_eq!(listed(&book("40000.00")), "refused 12 at 63\n");
+    assert_eq!(listed(&book("4.00")), "refused 12 at 59\n");
     // Nobody's trade, nothing far.
     assert_eq!(
         listed("DD;X2;S40000.00;L8.000;U8.000;V4.000;Z"),

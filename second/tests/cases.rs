@@ -8,7 +8,7 @@ use second::division::{divide, Member};
 
 /// The standing of the only customer of a gold book.
 fn standing(customer: &str) -> String {
-    let listing = listed(&format!("{GOLD}CX;{customer};Z"));
+    let listing = listed(&format!("{GOLD}CX;I1;{customer};Z"));
     let line = listing.lines().nth(2).expect("a customer's line");
     line.split(' ').nth(1).expect("a standing").to_string()
 }
@@ -89,11 +89,11 @@ fn case_9_one_over_a_million_and_one() {
 
 /// The customers of document 01's listing.
 const LISTED: &str = "\
-    CW3;K0;H1;Q0;A410.00 1@;\
-    CP2;K4;H0;Q4;B440.00 4@;\
-    CW1;K0;H3;Q0;A440.00 3@;\
-    CP1;K8;H2;Q6;B440.00 8@;A440.00 2@;\
-    CW2;K0;H5;Q0;A420.00 5@;Z";
+    CW3;I1;K0;H1;Q0;A410.00 1@;\
+    CP2;I1;K4;H0;Q4;B440.00 4@;\
+    CW1;I1;K0;H3;Q0;A440.00 3@;\
+    CP1;I1;K8;H2;Q6;B440.00 8@;A440.00 2@;\
+    CW2;I1;K0;H5;Q0;A420.00 5@;Z";
 
 #[test]
 fn case_10_the_listing() {
@@ -110,7 +110,7 @@ fn the_listing_with_a_comma_is_refused_4_at_17() {
 #[test]
 fn case_11_256_customers_are_accepted_and_the_257th_c_is_10() {
     let customers =
-        |count: usize| -> String { (0..count).map(|n| format!("CX{n};K0;H0;Q0;")).collect() };
+        |count: usize| -> String { (0..count).map(|n| format!("CX{n};I1;K0;H0;Q0;")).collect() };
     let most = listed(&format!("{GOLD}{}Z", customers(256)));
     assert_eq!(most.lines().count(), 2 + 256);
     assert!(most.starts_with("total 0\nleft 0\nX0 N 0\nX1 N 0\n"));
@@ -122,7 +122,7 @@ fn case_11_256_customers_are_accepted_and_the_257th_c_is_10() {
 /// A book of exactly this many bytes, padded with trades of a customer without a net
 /// position: fields of 25 bytes, then five of 25 to 30 that take up the rest.
 fn book_of(size: usize) -> Vec<u8> {
-    let mut bytes = book(&format!("{GOLD}CX;K0;H0;Q0"));
+    let mut bytes = book(&format!("{GOLD}CX;I1;K0;H0;Q0"));
     let end = field(b'Z', b"");
     while size - bytes.len() - end.len() >= 6 * 25 {
         bytes.extend(book("B400.00 1@"));

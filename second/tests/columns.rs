@@ -5,8 +5,9 @@ mod common;
 use common::{book, GOLD};
 use second::columns::{columns_into, Runs};
 
-const LISTING: &str = "CW3;K0;H1;Q0;A410.00 1@;CP2;K4;H0;Q4;B440.00 4@;CW1;K0;H3;Q0;A440.00 3@;\
-    CP1;K8;H2;Q6;B440.00 8@;A440.00 2@;CW2;K0;H5;Q0;A420.00 5@;Z";
+const LISTING: &str =
+    "CW3;I1;K0;H1;Q0;A410.00 1@;CP2;I1;K4;H0;Q4;B440.00 4@;CW1;I1;K0;H3;Q0;A440.00 3@;\
+    CP1;I1;K8;H2;Q6;B440.00 8@;A440.00 2@;CW2;I1;K0;H5;Q0;A420.00 5@;Z";
 
 struct Filled {
     answer: (u64, u64, u64),

@@ -47,19 +47,19 @@ fn in_s(x: &str, price: &str) -> String {
 fn in_trades(x: &str, s: &str, price: &str) -> [String; 3] {
     let terms = format!("DD;X{x};S{s};L8.000;U8.000;V4.000;");
     [
-        format!("CA;K1;H0;Q0;B{price} 1@;Z"),
-        format!("CA;K1;H0;Q0;A{price} 1@;B{s} 1@;Z"),
-        format!("CA;K0;H0;Q0;B{price} 1@;Z"),
+        format!("CA;I1;K1;H0;Q0;B{price} 1@;Z"),
+        format!("CA;I1;K1;H0;Q0;A{price} 1@;B{s} 1@;Z"),
+        format!("CA;I1;K0;H0;Q0;B{price} 1@;Z"),
     ]
     .map(|group| listed(&format!("{terms}{group}")))
 }
 
-/// An S with this X, and where the first trade then stands: behind S and the customer's four fields.
+/// An S with this X, and where the first trade then stands: behind S and the customer's five fields.
 fn first_trade(x: &str) -> (&'static str, usize) {
     if x == "2" {
-        ("400.00", 57)
+        ("400.00", 61)
     } else {
-        ("400", 54)
+        ("400", 58)
     }
 }
 
@@ -124,12 +124,12 @@ fn a_comma_in_a_price_is_4_whatever_x_is() {
 #[test]
 fn every_price_of_a_book_has_the_decimals_of_x() {
     // The second trade, or a later customer's, has others.
-    let mixed = format!("{SILVER}CA;K1;H0;Q0;B8000 1@;B8000.00 1@;Z");
-    assert_eq!(listed(&mixed), "refused 5 at 80\n");
-    let later = format!("{SILVER}CA;K0;H0;Q0;A8000 1@;CB;K0;H0;Q0;B400.00 1@;Z");
-    assert_eq!(listed(&later), "refused 5 at 96\n");
-    let gold = format!("{GOLD}CA;K1;H0;Q0;B400.00 1@;B400 1@;Z");
-    assert_eq!(listed(&gold), "refused 5 at 82\n");
+    let mixed = format!("{SILVER}CA;I1;K1;H0;Q0;B8000 1@;B8000.00 1@;Z");
+    assert_eq!(listed(&mixed), "refused 5 at 84\n");
+    let later = format!("{SILVER}CA;I1;K0;H0;Q0;A8000 1@;CB;I1;K0;H0;Q0;B400.00 1@;Z");
+    assert_eq!(listed(&later), "refused 5 at 104\n");
+    let gold = format!("{GOLD}CA;I1;K1;H0;Q0;B400.00 1@;B400 1@;Z");
+    assert_eq!(listed(&gold), "refused 5 at 86\n");
     // S is judged before the trades, and X before S.
     assert_eq!(in_s("0", "400.00"), "refused 5 at 8\n");
     assert_eq!(in_s("1", "400.0"), "refused 5 at 4\n");
@@ -183,12 +183,12 @@ fn x_stands_after_d_and_nowhere_else() {
     );
     assert_eq!(listed(&format!("{GOLD}X2;Z")), "refused 3 at 41\n");
     assert_eq!(
-        listed(&format!("{GOLD}CA;X2;K0;H0;Q0;Z")),
+        listed(&format!("{GOLD}CA;X2;I1;K0;H0;Q0;Z")),
         "refused 3 at 45\n"
     );
     assert_eq!(
-        listed(&format!("{GOLD}CA;K0;H0;Q0;X2;Z")),
-        "refused 3 at 57\n"
+        listed(&format!("{GOLD}CA;I1;K0;H0;Q0;X2;Z")),
+        "refused 3 at 61\n"
     );
     // Its value cut is 2, and a small letter is no tag.
     assert_eq!(common::listed_bytes(b"D\0\x01DX\0\x01"), "refused 2 at 4\n");
@@ -200,7 +200,7 @@ fn x_stands_after_d_and_nowhere_else() {
 
 /// The standing of the only customer of a silver book.
 fn standing(terms: &str, customer: &str) -> String {
-    let listing = listed(&format!("{terms}CX;{customer};Z"));
+    let listing = listed(&format!("{terms}CX;I1;{customer};Z"));
     let line = listing.lines().nth(2).expect("a customer's line");
     line.split(' ').nth(1).expect("a standing").to_string()
 }
@@ -232,8 +232,8 @@ fn silver_locked_up_is_the_other_way_round() {
 /// Document 01's listing in whole yuan: the same rates of S, so the same standings and lots.
 #[test]
 fn the_listing_in_whole_yuan() {
-    let customers = "CW3;K0;H1;Q0;A410 1@;CP2;K4;H0;Q4;B440 4@;CW1;K0;H3;Q0;A440 3@;\
-                     CP1;K8;H2;Q6;B440 8@;A440 2@;CW2;K0;H5;Q0;A420 5@;Z";
+    let customers = "CW3;I1;K0;H1;Q0;A410 1@;CP2;I1;K4;H0;Q4;B440 4@;CW1;I1;K0;H3;Q0;A440 3@;\
+                     CP1;I1;K8;H2;Q6;B440 8@;A440 2@;CW2;I1;K0;H5;Q0;A420 5@;Z";
     let want = "total 9\nleft 1\nW3 3 1\nP2 P 3\nW1 1 3\nP1 P 6\nW2 2 5\n";
     let listing = |x| listed(&format!("DD;X{x};S400;L8.000;U8.000;V4.000;{customers}"));
     assert_eq!(listing("0"), want);
@@ -297,17 +297,17 @@ fn in_the_other_unit(book: &[u8]) -> Vec<u8> {
 fn the_largest_gain_in_yuan_is_exact() {
     // S x 99.999 percent is 4,999,950, and x 99.998 percent is 4,999,900.
     let text = "DD;X0;S5000000;L99.999;U99.999;V99.998;\
-                CA;K0;H1000000;Q0;A9999950 1000000@;CB;K0;H1000000;Q0;A9999949 1000000@;\
-                CC;K0;H1000000;Q0;A9999899 1000000@;CD;K1000000;H0;Q1000000;B9999950 1000000@;\
-                CE;K1000000;H0;Q1000000;B9999999 1000000@;Z";
+                CA;I1;K0;H1000000;Q0;A9999950 1000000@;CB;I1;K0;H1000000;Q0;A9999949 1000000@;\
+                CC;I1;K0;H1000000;Q0;A9999899 1000000@;CD;I1;K1000000;H0;Q1000000;B9999950 1000000@;\
+                CE;I1;K1000000;H0;Q1000000;B9999999 1000000@;Z";
     let want = "total 2000000\nleft 0\nA 1 1000000\nB 2 1000000\nC 3 0\nD P 1000000\nE P 1000000\n";
     assert_eq!(listed(text), want);
     let most = "DD;X0;S9999999;L99.999;U99.999;V0.001;\
-                CA;K1000000;H0;Q0;B2000000 1000000@;CB;K0;H1000000;Q0;A9999999 1000000@;\
-                CC;K1000000;H0;Q1000000;B9999999 1000000@;Z";
+                CA;I1;K1000000;H0;Q0;B2000000 1000000@;CB;I1;K0;H1000000;Q0;A9999999 1000000@;\
+                CC;I1;K1000000;H0;Q1000000;B9999999 1000000@;Z";
     assert_eq!(listed(most), "total 0\nleft 0\nA N 0\nB N 0\nC N 0\n");
     let least = "DD;X0;S1;L99.999;U99.999;V0.001;\
-                 CA;K1000000;H0;Q1000000;B5 1000000@;CB;K0;H1000000;Q0;A5 1000000@;Z";
+                 CA;I1;K1000000;H0;Q1000000;B5 1000000@;CB;I1;K0;H1000000;Q0;A5 1000000@;Z";
     assert_eq!(
         listed(least),
         "total 1000000\nleft 0\nA P 1000000\nB 1 1000000\n"

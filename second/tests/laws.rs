@@ -2,10 +2,10 @@
 
 mod common;
 
-use common::{field, fields, join, naive, parts, report, Line, Numbers, Report};
+use common::{cut, field, fields, join, naive, parts, report, Line, Numbers, Report};
 use second::{allot, listing, make};
 
-const ROOM: usize = 10_000;
+const ROOM: usize = 40_000;
 
 /// The accepted books among the first so many of a seed.
 fn accepted(seed: u64, books: u64) -> impl Iterator<Item = (Vec<u8>, Report)> {
@@ -66,7 +66,7 @@ fn demand_3_the_order_of_customers_changes_nothing() {
 fn trades_moved(group: &mut Vec<u8>, numbers: &mut Numbers) -> bool {
     let before = group.clone();
     let fields = fields(&before);
-    let (head, trades) = fields.split_at(4);
+    let (head, trades) = cut(&fields);
     let mut order: Vec<usize> = (0..trades.len()).collect();
     numbers.shuffle(&mut order);
     let stamp = |at: usize| &trades[at].1[trades[at].1.len() - 13..];

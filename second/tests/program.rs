@@ -32,7 +32,7 @@ fn listed(input: &[u8]) -> Output {
 
 #[test]
 fn the_listing_of_standard_input_is_printed() {
-    let output = listed(&book(&format!("{GOLD}CA;K0;H0;Q0;Z")));
+    let output = listed(&book(&format!("{GOLD}CA;I1;K0;H0;Q0;Z")));
     assert_eq!(output.stdout, b"total 0\nleft 0\nA N 0\n");
     assert!(output.status.success() && output.stderr.is_empty());
 }

@@ -12,7 +12,7 @@ const FIRST: usize = 41;
 
 /// 256 customers without positions, 16 to 18 bytes each.
 fn full() -> String {
-    (0..256).map(|n| format!("CX{n};K0;H0;Q0;")).collect()
+    (0..256).map(|n| format!("CX{n};I1;K0;H0;Q0;")).collect()
 }
 
 #[test]
@@ -49,7 +49,7 @@ fn reading_3_bytes_after_z_are_3_at_the_first() {
 fn reading_4_the_257th_c_is_10_whatever_its_code() {
     let before = book(&format!("{GOLD}{}", full())).len();
     for last in ["CNEW", "CX0", "Cnew", "C", "CABCDEFGHIJKLM", "C,"] {
-        let listing = listed(&format!("{GOLD}{}{last};K0;H0;Q0;Z", full()));
+        let listing = listed(&format!("{GOLD}{}{last};I1;K0;H0;Q0;Z", full()));
         assert_eq!(listing, format!("refused 10 at {before}\n"));
     }
     let cut = [book(&format!("{GOLD}{}", full())), b"C\0\x05NEW".to_vec()].concat();
@@ -58,11 +58,18 @@ fn reading_4_the_257th_c_is_10_whatever_its_code() {
 
 #[test]
 fn reading_5_rule_9_belongs_to_the_closing_field() {
-    let short = "CA;K2;H0;Q0;B400.00 1@;";
+    let short = "CA;I1;K2;H0;Q0;B400.00 1@;";
     let closing = book(&format!("{GOLD}{short}")).len();
     let nine = format!("refused 9 at {FIRST}\n");
     // Before the closing field's own 5 and 7, and before Z's 5.
-    for close in ["Cb;K0;H0;Q0;Z", "CA;K0;H0;Q0;Z", "C,;Z", "Z,", "Z0", "Z"] {
+    for close in [
+        "Cb;I1;K0;H0;Q0;Z",
+        "CA;I1;K0;H0;Q0;Z",
+        "C,;Z",
+        "Z,",
+        "Z0",
+        "Z",
+    ] {
         assert_eq!(listed(&format!("{GOLD}{short}{close}")), nine);
     }
     // After its 2 and 3.
@@ -79,9 +86,9 @@ fn reading_5_rule_9_belongs_to_the_closing_field() {
 
 #[test]
 fn reading_5_rule_9_comes_before_10() {
-    let almost: String = (0..255).map(|n| format!("CX{n};K0;H0;Q0;")).collect();
+    let almost: String = (0..255).map(|n| format!("CX{n};I1;K0;H0;Q0;")).collect();
     let at = book(&format!("{GOLD}{almost}")).len();
-    let listing = listed(&format!("{GOLD}{almost}CA;K1;H0;Q0;CB;K0;H0;Q0;Z"));
+    let listing = listed(&format!("{GOLD}{almost}CA;I1;K1;H0;Q0;CB;I1;K0;H0;Q0;Z"));
     assert_eq!(listing, format!("refused 9 at {at}\n"));
 }
 
@@ -121,7 +128,7 @@ fn reading_6_a_comma_in_d_x_c_or_z_is_5() {
         "refused 5 at 4\n"
     );
     assert_eq!(
-        listed(&format!("{GOLD}CA,B;K0;H0;Q0;Z")),
+        listed(&format!("{GOLD}CA,B;I1;K0;H0;Q0;Z")),
         "refused 5 at 41\n"
     );
     assert_eq!(listed(&format!("{GOLD}Z,")), "refused 5 at 41\n");
@@ -130,19 +137,22 @@ fn reading_6_a_comma_in_d_x_c_or_z_is_5() {
 #[test]
 fn reading_7_without_a_net_position_trades_are_judged_and_ignored() {
     let none = "total 0\nleft 0\nA N 0\n";
-    assert_eq!(listed(&format!("{GOLD}CA;K5;H5;Q5;Z")), none);
+    assert_eq!(listed(&format!("{GOLD}CA;I1;K5;H5;Q5;Z")), none);
     assert_eq!(
-        listed(&format!("{GOLD}CA;K5;H5;Q0;B999.00 1@;A81.00 1@;Z")),
+        listed(&format!("{GOLD}CA;I1;K5;H5;Q0;B999.00 1@;A81.00 1@;Z")),
         none
     );
-    assert_eq!(listed(&format!("{GOLD}CA;K5;H5;Q6;Z")), "refused 8 at 53\n");
     assert_eq!(
-        listed(&format!("{GOLD}CA;K5;H5;Q5;B9,00 1@;Z")),
-        "refused 4 at 57\n"
+        listed(&format!("{GOLD}CA;I1;K5;H5;Q6;Z")),
+        "refused 8 at 57\n"
     );
     assert_eq!(
-        listed(&format!("{GOLD}CA;K5;H5;Q5;B9.00 0@;Z")),
-        "refused 5 at 57\n"
+        listed(&format!("{GOLD}CA;I1;K5;H5;Q5;B9,00 1@;Z")),
+        "refused 4 at 61\n"
+    );
+    assert_eq!(
+        listed(&format!("{GOLD}CA;I1;K5;H5;Q5;B9.00 0@;Z")),
+        "refused 5 at 61\n"
     );
 }
 
@@ -151,8 +161,8 @@ fn reading_8_a_p_customer_with_none_left_never_gets_a_spare_lot() {
     // Tier 1 takes 5 of 1 and 9: remainders 5 and 5, so the spare lot goes to P1 with
     // the smaller code, and P1 has none left. Tier 2's 3 all go to P2.
     let listing = listed(&format!(
-        "{GOLD}CP1;K1;H0;Q1;B440.00 1@;CP2;K9;H0;Q9;B440.00 9@;\
-         CW1;K0;H5;Q0;A440.00 5@;CW2;K0;H3;Q0;A420.00 3@;Z"
+        "{GOLD}CP1;I1;K1;H0;Q1;B440.00 1@;CP2;I1;K9;H0;Q9;B440.00 9@;\
+         CW1;I1;K0;H5;Q0;A440.00 5@;CW2;I1;K0;H3;Q0;A420.00 3@;Z"
     ));
     assert_eq!(listing, "total 8\nleft 2\nP1 P 1\nP2 P 7\nW1 1 5\nW2 2 3\n");
     let mut members = [
@@ -179,13 +189,15 @@ fn reading_9_a_division_of_the_whole_sum_is_exact() {
 
 #[test]
 fn reading_10_the_report_is_ascii_without_z_and_may_fill_its_room() {
-    let bytes = book(&format!("{GOLD}CAB;K0;H0;Q0;Z"));
+    let bytes = book(&format!("{GOLD}CAB;I1;K0;H0;Q0;Z"));
     let want = [
         field(b'T', b"0"),
         field(b'R', b"0"),
         field(b'C', b"AB"),
         field(b'E', b"N"),
         field(b'O', b"0"),
+        field(b'I', b"1"),
+        field(b'J', b"0"),
     ]
     .concat();
     let answer = allot(&bytes, want.len());
@@ -199,11 +211,11 @@ fn reading_11_everyone_else_is_n_also_with_q_above_0() {
     // A gain on the locked side, a loss short of the edge, and the other side with a
     // loss, each with unfilled lots.
     let listing = listed(&format!(
-        "{GOLD}CA;K5;H0;Q5;B300.00 5@;CB;K5;H0;Q5;B431.99 5@;CC;K3;H8;Q3;A300.00 8@;Z"
+        "{GOLD}CA;I1;K5;H0;Q5;B300.00 5@;CB;I1;K5;H0;Q5;B431.99 5@;CC;I1;K3;H8;Q3;A300.00 8@;Z"
     ));
     assert_eq!(listing, "total 0\nleft 0\nA N 0\nB N 0\nC N 0\n");
     let listing = listed(&format!(
-        "{GOLD_UP}CA;K0;H5;Q5;A500.00 5@;CB;K8;H3;Q3;B500.00 8@;Z"
+        "{GOLD_UP}CA;I1;K0;H5;Q5;A500.00 5@;CB;I1;K8;H3;Q3;B500.00 8@;Z"
     ));
     assert_eq!(listing, "total 0\nleft 0\nA N 0\nB N 0\n");
 }
@@ -211,7 +223,7 @@ fn reading_11_everyone_else_is_n_also_with_q_above_0() {
 #[test]
 fn reading_12_trades_may_sum_to_more_than_two_thousand_million_lots() {
     let trades = "A0.01 1000000@;".repeat(2_066);
-    let text = format!("DD;X2;S0.01;L8.000;U8.000;V4.000;CA;K0;H1000000;Q0;{trades}Z");
+    let text = format!("DD;X2;S0.01;L8.000;U8.000;V4.000;CA;I1;K0;H1000000;Q0;{trades}Z");
     assert!((59_972..=60_000).contains(&book(&text).len()));
     assert_eq!(listed(&text), "total 0\nleft 0\nA N 0\n");
 }
@@ -219,7 +231,7 @@ fn reading_12_trades_may_sum_to_more_than_two_thousand_million_lots() {
 #[test]
 fn reading_12_in_yuan_trades_may_sum_to_more_lots_than_31_bits_hold() {
     let trades = "A1 1000000@;".repeat(2_305);
-    let text = format!("DD;X0;S1;L8.000;U8.000;V4.000;CA;K0;H1000000;Q0;{trades}Z");
+    let text = format!("DD;X0;S1;L8.000;U8.000;V4.000;CA;I1;K0;H1000000;Q0;{trades}Z");
     assert!((59_972..=60_000).contains(&book(&text).len()));
     assert_eq!(listed(&text), "total 0\nleft 0\nA N 0\n");
 }
@@ -227,18 +239,19 @@ fn reading_12_in_yuan_trades_may_sum_to_more_lots_than_31_bits_hold() {
 #[test]
 fn reading_12_total_and_residue_may_have_nine_digits() {
     let customers = |tiers: usize| -> String {
-        let pending = (tiers..256).map(|n| format!("CP{n};K1000000;H0;Q1000000;B440.00 1000000@;"));
-        let gaining = (0..tiers).map(|n| format!("CT{n};K0;H1000000;Q0;A440.00 1000000@;"));
+        let pending =
+            (tiers..256).map(|n| format!("CP{n};I1;K1000000;H0;Q1000000;B440.00 1000000@;"));
+        let gaining = (0..tiers).map(|n| format!("CT{n};I1;K0;H1000000;Q0;A440.00 1000000@;"));
         pending.chain(gaining).collect()
     };
     let half = book(&format!("{GOLD}{}Z", customers(128)));
-    let half = report(&allot(&half, 10_000).report);
+    let half = report(&allot(&half, 40_000).report);
     assert_eq!((half.total, half.residue), (128_000_000, 0));
     let few = book(&format!("{GOLD}{}Z", customers(1)));
-    let few = report(&allot(&few, 10_000).report);
+    let few = report(&allot(&few, 40_000).report);
     assert_eq!((few.total, few.residue), (1_000_000, 254_000_000));
     let none = book(&format!("{GOLD}{}Z", customers(0)));
-    let none = report(&allot(&none, 10_000).report);
+    let none = report(&allot(&none, 40_000).report);
     assert_eq!((none.total, none.residue), (0, 256_000_000));
 }
 
@@ -246,9 +259,9 @@ fn reading_12_total_and_residue_may_have_nine_digits() {
 fn reading_12_the_largest_gain_at_the_largest_rates_is_exact() {
     let listing = listed(
         "DD;X2;S50000.00;L99.999;U99.999;V99.998;\
-         CA;K0;H1000000;Q0;A99999.50 1000000@;CB;K0;H1000000;Q0;A99999.49 1000000@;\
-         CC;K0;H1000000;Q0;A99998.99 1000000@;CD;K1000000;H0;Q1000000;B99999.50 1000000@;\
-         CE;K1000000;H0;Q1000000;B99999.99 1000000@;Z",
+         CA;I1;K0;H1000000;Q0;A99999.50 1000000@;CB;I1;K0;H1000000;Q0;A99999.49 1000000@;\
+         CC;I1;K0;H1000000;Q0;A99998.99 1000000@;CD;I1;K1000000;H0;Q1000000;B99999.50 1000000@;\
+         CE;I1;K1000000;H0;Q1000000;B99999.99 1000000@;Z",
     );
     // 50000.00 x 99.999 percent is 49999.50, and x 99.998 percent is 49999.00, so A is
     // at U, B one fen short of it, and C one fen short of V. Locked down, D and E lose.

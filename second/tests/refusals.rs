@@ -5,8 +5,8 @@ mod common;
 use common::{book, listed, listed_bytes, GOLD, GOLD_UP};
 use second::{allot, allot_into, Answer};
 
-/// A customer that breaks nothing: 16 bytes in all, 12 before its trades.
-const GOOD: &str = "CA;K0;H0;Q0;";
+/// A customer that breaks nothing: 20 bytes, and then its trades.
+const GOOD: &str = "CA;I1;K0;H0;Q0;";
 
 fn refused(text: &str) -> String {
     let listing = listed(text);
@@ -39,7 +39,7 @@ fn in_lots(tag: char, value: &str) -> String {
         format!("{name}{};", if name == tag { value } else { good })
     });
     listed(&format!(
-        "{GOLD}CA;{}A400.00 1000000@;B400.00 1000000@;Z",
+        "{GOLD}CA;I1;{}A400.00 1000000@;B400.00 1000000@;Z",
         fields.concat()
     ))
 }
@@ -72,14 +72,14 @@ fn number_2_where_a_field_must_begin() {
     assert_eq!(listed_bytes(b"D\0\x01"), "refused 2 at 0\n");
     assert_eq!(listed_bytes(b"D\0\x01D"), "refused 2 at 4\n");
     assert_eq!(refused(GOLD), "2 at 41");
-    assert_eq!(refused(&format!("{GOLD}{GOOD}")), "2 at 57");
+    assert_eq!(refused(&format!("{GOLD}{GOOD}")), "2 at 61");
 }
 
 #[test]
 fn number_2_or_3_at_every_cut_of_a_book() {
-    let whole = book(&format!("{GOLD}CA;K1;H0;Q1;B440.00 1@;Z"));
+    let whole = book(&format!("{GOLD}CA;I1;K1;H0;Q1;B440.00 1@;Z"));
     assert!(is_accepted(&listed_bytes(&whole)));
-    let begins = [0, 4, 8, 17, 25, 33, 41, 45, 49, 53, 57, 82];
+    let begins = [0, 4, 8, 17, 25, 33, 41, 45, 49, 53, 57, 61, 86];
     for cut in 0..whole.len() {
         let at = begins.iter().rev().find(|&&begin| begin <= cut).unwrap();
         assert_eq!(listed_bytes(&whole[..cut]), format!("refused 2 at {at}\n"));
@@ -100,10 +100,10 @@ fn number_3_a_tag_that_does_not_belong_there() {
     assert_eq!(refused(&format!("{GOLD}K0;Z")), "3 at 41");
     assert_eq!(refused(&format!("{GOLD}B400.00 1@;Z")), "3 at 41");
     assert_eq!(refused(&format!("{GOLD}CA;H0;K0;Q0;Z")), "3 at 45");
-    assert_eq!(refused(&format!("{GOLD}CA;CB;K0;H0;Q0;Z")), "3 at 45");
-    assert_eq!(refused(&format!("{GOLD}CA;K0;H0;Z")), "3 at 53");
-    assert_eq!(refused(&format!("{GOLD}{GOOD}Q0;Z")), "3 at 57");
-    assert_eq!(refused(&format!("{GOLD}{GOOD}b400.00 1;Z")), "3 at 57");
+    assert_eq!(refused(&format!("{GOLD}CA;CB;I1;K0;H0;Q0;Z")), "3 at 45");
+    assert_eq!(refused(&format!("{GOLD}CA;I1;K0;H0;Z")), "3 at 57");
+    assert_eq!(refused(&format!("{GOLD}{GOOD}Q0;Z")), "3 at 61");
+    assert_eq!(refused(&format!("{GOLD}{GOOD}b400.00 1;Z")), "3 at 61");
 }
 
 #[test]
@@ -140,8 +140,8 @@ fn number_4_a_comma_in_each_of_its_fields() {
         "400.00 1,20250431 2400",
         "x,",
     ] {
-        assert_eq!(in_trade(value), "refused 4 at 57\n");
-        assert_eq!(refused(&format!("{GOLD}{GOOD}A{value};Z")), "4 at 57");
+        assert_eq!(in_trade(value), "refused 4 at 61\n");
+        assert_eq!(refused(&format!("{GOLD}{GOOD}A{value};Z")), "4 at 61");
     }
 }
 
@@ -265,7 +265,7 @@ fn number_5_trades() {
         "400.00-1@",
         "100000.00 1@",
     ] {
-        assert_eq!(in_trade(value), "refused 5 at 57\n", "{value}");
+        assert_eq!(in_trade(value), "refused 5 at 61\n", "{value}");
     }
 }
 
@@ -316,7 +316,7 @@ fn number_5_a_trade_without_a_stamp_or_with_too_much_of_one() {
         "400.00 1 2025011/ 1000",
         "400.00 1 2025011: 1000",
     ] {
-        assert_eq!(in_trade(value), "refused 5 at 57\n", "{value}");
+        assert_eq!(in_trade(value), "refused 5 at 61\n", "{value}");
     }
 }
 
@@ -345,7 +345,7 @@ fn number_5_days_of_the_calendar_from_2000_to_2099() {
         "20251032", "20251131", "20251232", "20251301", "20252001", "20259999", "20970229",
         "21000101", "21000228", "21000229", "99991231", "99999999",
     ] {
-        assert_eq!(on(bad), "refused 5 at 57\n", "{bad}");
+        assert_eq!(on(bad), "refused 5 at 61\n", "{bad}");
     }
 }
 
@@ -382,7 +382,7 @@ fn number_5_times_of_the_clock() {
         "0060", "0099", "0160", "1960", "1999", "2360", "2399", "2400", "2401", "2459", "9900",
         "9999",
     ] {
-        assert_eq!(at(bad), "refused 5 at 57\n", "{bad}");
+        assert_eq!(at(bad), "refused 5 at 61\n", "{bad}");
     }
     let good = (0..=9_999).filter(|&time| second::stamp::Stamp::of(20_250_115, time).is_some());
     assert_eq!(good.count(), 24 * 60);
@@ -392,18 +392,18 @@ fn number_5_times_of_the_clock() {
 fn number_5_stamps_are_judged_on_the_other_side_and_without_a_position() {
     // A holds 1 long, and its sale is on the other side; B holds nothing; C has enough in its newest trade.
     for bad in ["20250431 1000", "20250115 2400", "20250115 1000 "] {
-        let other = format!("{GOLD}CA;K1;H0;Q0;B400.00 1@;A400.00 1 {bad};Z");
-        assert_eq!(refused(&other), "5 at 82");
-        let none = format!("{GOLD}CB;K0;H0;Q0;B400.00 1@;A400.00 1 {bad};Z");
-        assert_eq!(refused(&none), "5 at 82");
-        let old = format!("{GOLD}CC;K1;H0;Q0;B400.00 1@;B400.00 1 {bad};Z");
-        assert_eq!(refused(&old), "5 at 82");
+        let other = format!("{GOLD}CA;I1;K1;H0;Q0;B400.00 1@;A400.00 1 {bad};Z");
+        assert_eq!(refused(&other), "5 at 86");
+        let none = format!("{GOLD}CB;I1;K0;H0;Q0;B400.00 1@;A400.00 1 {bad};Z");
+        assert_eq!(refused(&none), "5 at 86");
+        let old = format!("{GOLD}CC;I1;K1;H0;Q0;B400.00 1@;B400.00 1 {bad};Z");
+        assert_eq!(refused(&old), "5 at 86");
     }
 }
 
 #[test]
 fn number_5_codes() {
-    let code = |code: &str| listed(&format!("{GOLD}C{code};K0;H0;Q0;Z"));
+    let code = |code: &str| listed(&format!("{GOLD}C{code};I1;K0;H0;Q0;Z"));
     for good in ["0", "9", "A", "Z", "ABCDEFGHIJKL", "012345678901"] {
         assert_eq!(code(good), format!("total 0\nleft 0\n{good} N 0\n"));
     }
@@ -445,54 +445,59 @@ fn number_6_u_is_greater_than_v() {
 
 #[test]
 fn number_7_at_the_second_c() {
-    assert_eq!(refused(&format!("{GOLD}{GOOD}{GOOD}Z")), "7 at 57");
+    assert_eq!(refused(&format!("{GOLD}{GOOD}{GOOD}Z")), "7 at 61");
     assert_eq!(
-        refused(&format!("{GOLD}{GOOD}CB;K0;H0;Q0;CA;K,")),
-        "7 at 73"
+        refused(&format!("{GOLD}{GOOD}CB;I1;K0;H0;Q0;CA;I1;K,")),
+        "7 at 81"
     );
-    assert!(is_accepted(&listed(&format!("{GOLD}{GOOD}CAA;K0;H0;Q0;Z"))));
+    assert!(is_accepted(&listed(&format!(
+        "{GOLD}{GOOD}CAA;I1;K0;H0;Q0;Z"
+    ))));
 }
 
 #[test]
 fn number_8_q_against_the_locked_side() {
-    assert_eq!(refused(&format!("{GOLD}CA;K1;H9;Q2;Z")), "8 at 53");
-    assert_eq!(refused(&format!("{GOLD_UP}CA;K9;H1;Q2;Z")), "8 at 53");
+    assert_eq!(refused(&format!("{GOLD}CA;I1;K1;H9;Q2;Z")), "8 at 57");
+    assert_eq!(refused(&format!("{GOLD_UP}CA;I1;K9;H1;Q2;Z")), "8 at 57");
     assert!(is_accepted(&listed(&format!(
-        "{GOLD}CA;K2;H9;Q2;A400.00 7@;Z"
+        "{GOLD}CA;I1;K2;H9;Q2;A400.00 7@;Z"
     ))));
     assert!(is_accepted(&listed(&format!(
-        "{GOLD_UP}CA;K9;H2;Q2;B400.00 7@;Z"
+        "{GOLD_UP}CA;I1;K9;H2;Q2;B400.00 7@;Z"
     ))));
     // 4 and 5 of Q come first, and 8 comes before the trades and 9.
-    assert_eq!(refused(&format!("{GOLD}CA;K1;H0;Q2,;Z")), "4 at 53");
-    assert_eq!(refused(&format!("{GOLD}CA;K1;H0;Q02;Z")), "5 at 53");
-    assert_eq!(refused(&format!("{GOLD}CA;K1;H0;Q2;B4,00 1@;Z")), "8 at 53");
+    assert_eq!(refused(&format!("{GOLD}CA;I1;K1;H0;Q2,;Z")), "4 at 57");
+    assert_eq!(refused(&format!("{GOLD}CA;I1;K1;H0;Q02;Z")), "5 at 57");
+    assert_eq!(
+        refused(&format!("{GOLD}CA;I1;K1;H0;Q2;B4,00 1@;Z")),
+        "8 at 57"
+    );
 }
 
 #[test]
 fn number_9_at_the_customers_own_c() {
     assert_eq!(
-        refused(&format!("{GOLD}CA;K2;H0;Q0;B400.00 1@;Z")),
+        refused(&format!("{GOLD}CA;I1;K2;H0;Q0;B400.00 1@;Z")),
         "9 at 41"
     );
     assert_eq!(
-        refused(&format!("{GOLD}CA;K2;H0;Q0;A400.00 2@;Z")),
+        refused(&format!("{GOLD}CA;I1;K2;H0;Q0;A400.00 2@;Z")),
         "9 at 41"
     );
     assert_eq!(
-        refused(&format!("{GOLD}CA;K0;H2;Q0;B400.00 2@;A400.00 1@;Z")),
+        refused(&format!("{GOLD}CA;I1;K0;H2;Q0;B400.00 2@;A400.00 1@;Z")),
         "9 at 41"
     );
     assert_eq!(
-        refused(&format!("{GOLD}{GOOD}CB;K1;H0;Q0;CC;K0;H0;Q0;Z")),
-        "9 at 57"
+        refused(&format!("{GOLD}{GOOD}CB;I1;K1;H0;Q0;CC;I1;K0;H0;Q0;Z")),
+        "9 at 61"
     );
     // Only the net must be reached, by the sum of several trades.
     assert!(is_accepted(&listed(&format!(
-        "{GOLD}CA;K5;H3;Q0;B400.00 1@;B400.00 1@;Z"
+        "{GOLD}CA;I1;K5;H3;Q0;B400.00 1@;B400.00 1@;Z"
     ))));
     assert_eq!(
-        refused(&format!("{GOLD}CA;K5;H2;Q0;B400.00 1@;B400.00 1@;Z")),
+        refused(&format!("{GOLD}CA;I1;K5;H2;Q0;B400.00 1@;B400.00 1@;Z")),
         "9 at 41"
     );
 }
@@ -507,32 +512,32 @@ fn the_first_broken_field_decides() {
     assert_eq!(refused("DX;X1;S4,00;Z"), "5 at 0");
     assert_eq!(refused("DD;X1;S4,00;Z"), "5 at 4");
     assert_eq!(refused("DD;X2;S4,00;L8;Z"), "4 at 8");
-    assert_eq!(refused(&format!("{GOLD}CA;Kx;H1,0;Q0;Z")), "5 at 45");
+    assert_eq!(refused(&format!("{GOLD}CA;I1;Kx;H1,0;Q0;Z")), "5 at 49");
 }
 
-/// Document 01's own example has a report of 73 bytes.
+/// Document 01's own example has a report of 113 bytes.
 fn example() -> Vec<u8> {
     book(&format!(
-        "{GOLD}CW3;K0;H1;Q0;A410.00 1@;CP2;K4;H0;Q4;B440.00 4@;CW1;K0;H3;Q0;A440.00 3@;\
-         CP1;K8;H2;Q6;B440.00 8@;A440.00 2@;CW2;K0;H5;Q0;A420.00 5@;Z"
+        "{GOLD}CW3;I1;K0;H1;Q0;A410.00 1@;CP2;I1;K4;H0;Q4;B440.00 4@;CW1;I1;K0;H3;Q0;A440.00 3@;\
+         CP1;I1;K8;H2;Q6;B440.00 8@;A440.00 2@;CW2;I1;K0;H5;Q0;A420.00 5@;Z"
     ))
 }
 
 #[test]
 fn number_11_says_the_length_needed() {
-    for room in [0, 1, 72] {
+    for room in [0, 1, 112] {
         let refused = Answer {
             number: 11,
-            place: 73,
+            place: 113,
             length: 0,
             report: Vec::new(),
         };
         assert_eq!(allot(&example(), room), refused);
     }
-    for room in [73, 74, 100_000] {
+    for room in [113, 114, 100_000] {
         let answer = allot(&example(), room);
-        assert_eq!((answer.number, answer.place, answer.length), (0, 0, 73));
-        assert_eq!(answer.report.len(), 73);
+        assert_eq!((answer.number, answer.place, answer.length), (0, 0, 113));
+        assert_eq!(answer.report.len(), 113);
     }
 }
 
@@ -546,13 +551,13 @@ fn number_11_comes_last() {
 
 #[test]
 fn bytes_after_the_report_stay_as_they_were() {
-    let report = allot(&example(), 73).report;
-    for room in [73, 74, 200] {
+    let report = allot(&example(), 113).report;
+    for room in [113, 114, 200] {
         for before in [0x00, 0xa5, 0xff] {
             let mut lent = vec![before; room];
-            assert_eq!(allot_into(&example(), &mut lent), (0, 0, 73));
-            assert_eq!(lent[..73], report);
-            assert!(lent[73..].iter().all(|&byte| byte == before));
+            assert_eq!(allot_into(&example(), &mut lent), (0, 0, 113));
+            assert_eq!(lent[..113], report);
+            assert!(lent[113..].iter().all(|&byte| byte == before));
         }
     }
 }
@@ -560,11 +565,11 @@ fn bytes_after_the_report_stay_as_they_were() {
 #[test]
 fn on_refusal_no_byte_is_altered() {
     let refused = [
-        (example(), 72, (11, 73, 0)),
-        (example(), 0, (11, 73, 0)),
+        (example(), 112, (11, 113, 0)),
+        (example(), 0, (11, 113, 0)),
         (book("DD;X2;S4,00"), 500, (4, 8, 0)),
         (
-            book(&format!("{GOLD}CA;K2;H0;Q0;B400.00 1@;Z")),
+            book(&format!("{GOLD}CA;I1;K2;H0;Q0;B400.00 1@;Z")),
             500,
             (9, 41, 0),
         ),

@@ -8,7 +8,7 @@ use common::{book, listed, naive, GOLD, GOLD_UP};
 /// in the book at a loss of 10 percent, the second without one. P where the first is the newer.
 fn first_is_newer(first: &str, second: &str) -> bool {
     let listing = listed(&format!(
-        "{GOLD}CX;K10;H0;Q10;B440.00 10 {first};B400.00 10 {second};Z"
+        "{GOLD}CX;I1;K10;H0;Q10;B440.00 10 {first};B400.00 10 {second};Z"
     ));
     match listing.as_str() {
         "total 0\nleft 10\nX P 0\n" => true,
@@ -83,7 +83,7 @@ fn of_equal_stamps_the_later_place_is_newer() {
     }
     // Three of one minute, of which the last two count, whatever stands between them.
     let listing = listed(&format!(
-        "{GOLD}CX;K0;H2;Q0;A300.00 1 20250115 1000;A432.00 1 20250115 1000;A999.00 1 20250114 1000;\
+        "{GOLD}CX;I1;K0;H2;Q0;A300.00 1 20250115 1000;A432.00 1 20250115 1000;A999.00 1 20250114 1000;\
          B81.00 1 20250115 1000;A432.00 1 20250115 1000;A999.00 1 20250115 0959;Z"
     ));
     assert_eq!(listing, "total 0\nleft 0\nX 1 0\n");
@@ -93,12 +93,12 @@ fn of_equal_stamps_the_later_place_is_newer() {
 fn an_older_day_late_in_the_book_does_not_count() {
     // 432.00 is the edge of tier 1. The trade at 400.00 stands last and is a day older.
     let listing = listed(&format!(
-        "{GOLD}CX;K0;H10;Q0;A432.00 10 20250115 0900;A400.00 10 20250114 1949;Z"
+        "{GOLD}CX;I1;K0;H10;Q0;A432.00 10 20250115 0900;A400.00 10 20250114 1949;Z"
     ));
     assert_eq!(listing, "total 0\nleft 0\nX 1 0\n");
     // One lot more than the newer trade has: the needed part of the older one counts.
     let listing = listed(&format!(
-        "{GOLD}CX;K0;H11;Q0;A432.00 10 20250115 0900;A400.00 10 20250114 1949;Z"
+        "{GOLD}CX;I1;K0;H11;Q0;A432.00 10 20250115 0900;A400.00 10 20250114 1949;Z"
     ));
     assert_eq!(listing, "total 0\nleft 0\nX 2 0\n");
 }
@@ -108,12 +108,12 @@ fn the_part_that_counts_is_the_oldest_needed_by_time() {
     // Case 6 with the trades the other way round in the book: 10 at 420.00, then 5 of the 10 at 450.00.
     let trades = "B420.00 10 20250115 0900;B450.00 10 20250115 2100";
     assert_eq!(
-        listed(&format!("{GOLD}CX;K15;H0;Q15;{trades};Z")),
+        listed(&format!("{GOLD}CX;I1;K15;H0;Q15;{trades};Z")),
         "total 0\nleft 0\nX N 0\n"
     );
     let trades = "B420.00 9 20250115 0900;B450.00 10 20250115 2100";
     assert_eq!(
-        listed(&format!("{GOLD}CX;K15;H0;Q15;{trades};Z")),
+        listed(&format!("{GOLD}CX;I1;K15;H0;Q15;{trades};Z")),
         "total 0\nleft 15\nX P 0\n"
     );
 }
@@ -122,7 +122,7 @@ fn the_part_that_counts_is_the_oldest_needed_by_time() {
 #[test]
 fn three_orders_give_three_standings() {
     let text = format!(
-        "{GOLD}CX;K0;H10;Q0;A440.00 10 20250115 1500;A420.00 10 20250115 2031;A410.00 10 20250115 0900;Z"
+        "{GOLD}CX;I1;K0;H10;Q0;A440.00 10 20250115 1500;A420.00 10 20250115 2031;A410.00 10 20250115 0900;Z"
     );
     let standing = |newer| naive::work_by(newer, &book(&text)).people[0].standing;
     assert_eq!(standing(naive::by_place), '3');
@@ -135,7 +135,7 @@ fn three_orders_give_three_standings() {
 #[test]
 fn the_clock_without_the_day_is_no_order_either() {
     let text = format!(
-        "{GOLD}CX;K0;H10;Q0;A440.00 10 20250116 2031;A420.00 10 20250115 1949;A410.00 10 20250114 2359;Z"
+        "{GOLD}CX;I1;K0;H10;Q0;A440.00 10 20250116 2031;A420.00 10 20250115 1949;A410.00 10 20250114 2359;Z"
     );
     assert_eq!(listed(&text), "total 0\nleft 0\nX 1 0\n");
 }
@@ -143,10 +143,10 @@ fn the_clock_without_the_day_is_no_order_either() {
 #[test]
 fn locked_up_it_is_the_same_order() {
     let text =
-        format!("{GOLD_UP}CX;K0;H10;Q10;A360.00 10 20250115 0900;A400.00 10 20250115 2031;Z");
+        format!("{GOLD_UP}CX;I1;K0;H10;Q10;A360.00 10 20250115 0900;A400.00 10 20250115 2031;Z");
     assert_eq!(listed(&text), "total 0\nleft 10\nX P 0\n");
     let text =
-        format!("{GOLD_UP}CX;K0;H10;Q10;A360.00 10 20250115 2031;A400.00 10 20250115 0900;Z");
+        format!("{GOLD_UP}CX;I1;K0;H10;Q10;A360.00 10 20250115 2031;A400.00 10 20250115 0900;Z");
     assert_eq!(listed(&text), "total 0\nleft 0\nX N 0\n");
 }
 
@@ -154,8 +154,8 @@ fn locked_up_it_is_the_same_order() {
 fn each_customer_has_its_own_order() {
     // The first customer's trades are newer than all of the second's.
     let listing = listed(&format!(
-        "{GOLD}CA;K0;H1;Q0;A440.00 1 20250117 0900;A410.00 1 20250117 2100;\
-         CB;K0;H1;Q0;A410.00 1 20250101 0900;A420.00 1 20250101 2100;Z"
+        "{GOLD}CA;I1;K0;H1;Q0;A440.00 1 20250117 0900;A410.00 1 20250117 2100;\
+         CB;I1;K0;H1;Q0;A410.00 1 20250101 0900;A420.00 1 20250101 2100;Z"
     ));
     assert_eq!(listing, "total 0\nleft 0\nA 1 0\nB 3 0\n");
 }
@@ -165,8 +165,8 @@ fn each_customer_has_its_own_order() {
 fn document_01s_listing_with_trades_in_another_order() {
     let listing = |p1: &str| {
         listed(&format!(
-            "{GOLD}CW3;K0;H1;Q0;A410.00 1@;CP2;K4;H0;Q4;B440.00 4@;CW1;K0;H3;Q0;A440.00 3@;\
-             CP1;K8;H2;Q6;{p1};CW2;K0;H5;Q0;A420.00 5@;Z"
+            "{GOLD}CW3;I1;K0;H1;Q0;A410.00 1@;CP2;I1;K4;H0;Q4;B440.00 4@;CW1;I1;K0;H3;Q0;A440.00 3@;\
+             CP1;I1;K8;H2;Q6;{p1};CW2;I1;K0;H5;Q0;A420.00 5@;Z"
         ))
     };
     let want = "total 9\nleft 1\nW3 3 1\nP2 P 3\nW1 1 3\nP1 P 6\nW2 2 5\n";

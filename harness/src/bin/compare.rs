@@ -88,7 +88,7 @@ fn tally(counts: &Counts) -> (u32, u32) {
     let full = counts.books >= FULL;
     let made = Check::ALL.map(|(check, name)| (name, counts.times(check)));
     let numbers = counts.numbers.iter().all(|&count| count > 0);
-    let occurred = ("every number from 0 to 12 occurred", u64::from(numbers));
+    let occurred = ("every number from 0 to 13 occurred", u64::from(numbers));
     let (mut passed, mut failed) = (0, 0);
     for (name, times) in made.into_iter().chain([occurred]) {
         let verdict = match (times > 0, full) {

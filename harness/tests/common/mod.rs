@@ -5,6 +5,7 @@ use harness::compare::answer_of;
 use harness::fields::{fields, groups, value};
 use harness::product::Answer;
 use harness::rearrange::Arrangement;
+use harness::statement::{held, read, Seat};
 use harness::trades::words;
 use second::columns::Runs;
 
@@ -335,11 +336,14 @@ pub fn a_fifth_rounded_down(book: &[u8], report: &mut [u8]) -> Answer {
 pub fn net_side_judged_alone(book: &[u8], report: &mut [u8]) -> Answer {
     far_prices_taken(book, report, |book, place| {
         let at = place as usize;
+        let group = groups(book).into_iter().find(|group| group.contains(&at));
+        let group = &book[group.expect("a trade is a customer's")];
         let mut held = [b'K', b'H'].map(|tag| {
-            let before =
-                |field: &std::ops::Range<usize>| field.start < at && book[field.start] == tag;
-            let last = fields(book).into_iter().rfind(before);
-            last.and_then(|field| number(&book[value(&field)]))
+            let figures = values(group, tag);
+            figures
+                .iter()
+                .filter_map(|value| number(value))
+                .sum::<u64>()
         });
         if book[at] == b'A' {
             held.reverse();
@@ -359,6 +363,163 @@ pub fn twelve_before_five(book: &[u8], report: &mut [u8]) -> Answer {
         .is_some_and(|tag| b"BA".contains(tag));
     if answer.number == 5 && at_trade && price_at(book, answer.place).is_some_and(is_far) {
         return answer_of((12, answer.place, 0));
+    }
+    right(book, report)
+}
+
+/// A wrong program: seats of equal remainders are settled by their order in the book. Seat codes that rise in that order make the
+/// right program do it.
+pub fn seat_ties_by_place(book: &[u8], report: &mut [u8]) -> Answer {
+    let codes = values(book, b'I');
+    let renamed = with_values(book, b'I', |nth, _| format!("{nth:04}").into_bytes());
+    let (Some(_), Some(other)) = (self::report(book), self::report(&renamed)) else {
+        return right(book, report);
+    };
+    let named = with_values(&other, b'I', |nth, _| codes[nth].clone());
+    answered_with(book, report, |_| named)
+}
+
+/// Whole lots by weight, the lots left over one each from the largest remainder on, equal ones by the smaller code. What the weights
+/// cannot take goes to the first.
+fn shares(lots: u64, weights: &[u64], codes: &[Vec<u8>]) -> Vec<u64> {
+    let sum: u64 = weights.iter().sum();
+    let mut shares: Vec<u64> = weights.iter().map(|w| lots * w / sum.max(1)).collect();
+    let mut order: Vec<usize> = (0..weights.len()).collect();
+    let remainder = |at: usize| lots * weights[at] % sum.max(1);
+    order.sort_by(|&one, &other| {
+        let by_remainder = remainder(other).cmp(&remainder(one));
+        by_remainder.then_with(|| codes[one].cmp(&codes[other]))
+    });
+    let mut left = lots.saturating_sub(shares.iter().sum());
+    for at in order.into_iter().cycle() {
+        if left == 0 {
+            break;
+        }
+        shares[at] += 1;
+        left -= 1;
+    }
+    shares
+}
+
+/// Another division over the seats of every customer that is given something: by what `weight` says of standing and seat.
+fn seats_by(book: &[u8], report: &mut [u8], weight: impl Fn(u8, bool, &Seat) -> u64) -> Answer {
+    let (Some(own), Ok(customers)) = (self::report(book), held(book)) else {
+        return right(book, report);
+    };
+    let lines = read(&own).expect("a report").lines;
+    let given = lines.iter().zip(&customers).flat_map(|(line, held)| {
+        let weights: Vec<u64> = (held.seats.iter())
+            .map(|seat| weight(line.standing, held.is_long(), seat))
+            .collect();
+        let codes: Vec<Vec<u8>> = held.seats.iter().map(|seat| seat.code.clone()).collect();
+        // So many lots that the loop above is short.
+        match line.offset {
+            1..=100_000 => shares(line.offset, &weights, &codes),
+            _ => line.seats.iter().map(|(_, lots)| *lots).collect(),
+        }
+    });
+    let given: Vec<u64> = given.collect();
+    let other = with_values(&own, b'J', |nth, _| given[nth].to_string().into_bytes());
+    answered_with(book, report, |_| other)
+}
+
+fn on_net_side(is_long: bool, seat: &Seat) -> u64 {
+    if is_long {
+        seat.long
+    } else {
+        seat.short
+    }
+}
+
+/// A wrong program: a tier customer's seats are weighed by their net position, and not by the lots held.
+pub fn seats_by_net(book: &[u8], report: &mut [u8]) -> Answer {
+    seats_by(book, report, |standing, is_long, seat| match standing {
+        b'P' => seat.unfilled,
+        _ => on_net_side(is_long, seat).saturating_sub(on_net_side(!is_long, seat)),
+    })
+}
+
+/// A wrong program: a P customer's seats are weighed by the lots held, as a tier customer's are.
+pub fn seats_by_lots_held(book: &[u8], report: &mut [u8]) -> Answer {
+    seats_by(book, report, |_, is_long, seat| on_net_side(is_long, seat))
+}
+
+/// A wrong program: all seats alike.
+pub fn seats_alike(book: &[u8], report: &mut [u8]) -> Answer {
+    seats_by(book, report, |_, _, _| 1)
+}
+
+/// A wrong program: 8 is asked of the sums. Where each seat's Q is lowered to what it holds the right program goes on.
+pub fn eight_on_the_sum(book: &[u8], report: &mut [u8]) -> Answer {
+    let answer = second::allot(book, report.len());
+    if answer.number != 8 {
+        return right(book, report);
+    }
+    let at = answer.place as usize;
+    let mut other = book[..at].to_vec();
+    other.extend_from_slice(b"Q\0\x010");
+    let end = fields(book).into_iter().find(|field| field.start == at);
+    other.extend_from_slice(&book[end.expect("the Q field").end..]);
+    let group = groups(book).into_iter().rfind(|group| group.contains(&at));
+    let group = &book[group.expect("its group")];
+    let sum = |tag| {
+        values(group, tag)
+            .iter()
+            .filter_map(|value| number(value))
+            .sum::<u64>()
+    };
+    let locked = if book[3] == b'D' { b'K' } else { b'H' };
+    if sum(b'Q') <= sum(locked) {
+        right(&other, report)
+    } else {
+        right(book, report)
+    }
+}
+
+/// The book without the seat that begins at a place.
+fn without_seat(book: &[u8], place: u64) -> Option<Vec<u8>> {
+    let seat = harness::fields::seats(book)
+        .into_iter()
+        .find(|seat| seat.start as u64 == place)?;
+    Some([&book[..seat.start], &book[seat.end..]].concat())
+}
+
+/// A wrong program: a fifth seat is taken, and left out of account.
+pub fn a_fifth_seat_taken(book: &[u8], report: &mut [u8]) -> Answer {
+    let answer = second::allot(book, report.len());
+    let at = answer.place as usize;
+    let after_q = fields(book)
+        .into_iter()
+        .any(|field| field.end == at && book[field.start] == b'Q');
+    match (
+        answer.number,
+        book.get(at),
+        without_seat(book, answer.place),
+    ) {
+        (3, Some(b'I'), Some(other)) if after_q => right(&other, report),
+        _ => right(book, report),
+    }
+}
+
+/// A wrong program: a seat code may be given twice, and the second seat is left out of account.
+pub fn a_seat_twice_taken(book: &[u8], report: &mut [u8]) -> Answer {
+    let answer = second::allot(book, report.len());
+    match (answer.number, without_seat(book, answer.place)) {
+        (13, Some(other)) => right(&other, report),
+        _ => right(book, report),
+    }
+}
+
+/// A wrong program: a seat code may stand once in the whole book.
+pub fn seat_codes_of_the_whole_book(book: &[u8], report: &mut [u8]) -> Answer {
+    let mut seen = Vec::new();
+    for seat in harness::fields::seats(book) {
+        let field = fields(&book[seat.start..]).remove(0);
+        let code = &book[seat.start..][value(&field)];
+        if seen.contains(&code) && self::report(book).is_some() {
+            return answer_of((13, seat.start as u64, 0));
+        }
+        seen.push(code);
     }
     right(book, report)
 }

@@ -12,6 +12,17 @@ pub fn any(rng: &mut Rng, count: usize) -> Vec<Vec<u8>> {
     distinct(rng, count, LETTERS)
 }
 
+/// Codes of 12 bytes.
+pub fn longest(rng: &mut Rng, count: usize) -> Vec<Vec<u8>> {
+    let mut codes = any(rng, count);
+    for (nth, code) in codes.iter_mut().enumerate() {
+        // The last two bytes tell them apart.
+        code.resize(LONGEST as usize - 2, b'Q');
+        code.extend([nth / 36, nth % 36].map(|at| LETTERS[at]));
+    }
+    codes
+}
+
 /// Codes out of few bytes, so that many begin one another: A, AA, A0, AAA.
 pub fn nested(rng: &mut Rng, count: usize) -> Vec<Vec<u8>> {
     let alphabet: &[u8] = rng.pick(&[b"A0".as_slice(), b"AZ", b"09A", b"9A"]);

@@ -3,10 +3,12 @@
 use super::damage_bytes as bytes;
 use super::damage_draft as drafts;
 use super::damage_prices as priced;
+use super::damage_seats as seated;
 use super::damage_stamps as stamped;
 use super::draft::Draft;
 use super::edges;
 use super::rng::Rng;
+use super::seats::seat;
 use super::stamps::arrange;
 use super::whole;
 
@@ -18,14 +20,17 @@ enum Damage {
 }
 use Damage::{Bytes, Draft as Numbers};
 
-const DAMAGES: [(u64, (&str, Damage)); 36] = [
+const DAMAGES: [(u64, (&str, Damage)); 43] = [
     (
-        6,
+        7,
         ("edges out of order", Numbers(drafts::edges_out_of_order)),
     ),
-    (8, ("code twice", Numbers(drafts::code_twice))),
+    (11, ("code twice", Numbers(drafts::code_twice))),
     (6, ("code malformed", Numbers(drafts::code_malformed))),
-    (8, ("pending over held", Numbers(drafts::pending_over_held))),
+    (
+        11,
+        ("pending over held", Numbers(drafts::pending_over_held)),
+    ),
     (10, ("trades short", Numbers(drafts::trades_short))),
     (
         10,
@@ -36,6 +41,13 @@ const DAMAGES: [(u64, (&str, Damage)); 36] = [
     ),
     (2, ("one customer too many", Numbers(drafts::one_too_many))),
     (8, ("price beyond", Numbers(drafts::price_beyond))),
+    (8, ("seat code twice", Numbers(seated::code_twice))),
+    (6, ("seat code malformed", Numbers(seated::code_malformed))),
+    (6, ("fifth seat", Numbers(seated::fifth_seat))),
+    (2, ("no seat", Numbers(seated::no_seat))),
+    (5, ("no seat code", Bytes(seated::no_seat_code))),
+    (5, ("seat after a trade", Bytes(seated::seat_after_a_trade))),
+    (4, ("parts of a seat", Bytes(seated::seat_parts))),
     (8, ("byte changed", Bytes(bytes::byte_changed))),
     (5, ("length changed", Bytes(bytes::length_changed))),
     (6, ("field dropped", Bytes(bytes::field_dropped))),
@@ -77,6 +89,7 @@ pub fn book(rng: &mut Rng) -> (&'static str, Vec<u8>) {
     } else {
         whole::draft(rng)
     };
+    seat(rng, &mut draft);
     let count = rng.weighted(&[(6, 1), (3, 2), (1, 3)]);
     let damages: Vec<_> = (0..count).map(|_| rng.weighted(&DAMAGES)).collect();
     for (_, damage) in &damages {

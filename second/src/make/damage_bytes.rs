@@ -9,7 +9,7 @@ use std::ops::Range;
 use super::rng::Rng;
 
 /// All tags of a book and some that are none.
-const TAGS: &[u8] = b"DSLUVCKHQBAZXITREOczb \0\xff";
+const TAGS: &[u8] = b"DSLUVCKHQBAZXITREOJcizb \0\xff";
 
 /// Values at the ends of a form and just outside it; some break 4 and 5 at once.
 const VALUES: &[&[u8]] = &[
@@ -162,7 +162,7 @@ pub fn point_to_comma(rng: &mut Rng, bytes: &mut Vec<u8>) {
     }
 }
 
-/// A comma put into any value, D, X, C and Z too, in place of a byte or between two.
+/// A comma put into any value, D, X, C, I and Z too, in place of a byte or between two.
 pub fn comma_in_value(rng: &mut Rng, bytes: &mut Vec<u8>) {
     change_value(rng, bytes, |rng, value| {
         let place = rng.place(value.len() + 1);

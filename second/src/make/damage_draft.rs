@@ -2,6 +2,7 @@
 
 use super::draft::{Draft, Group, MOST_LOTS};
 use super::rng::Rng;
+use super::seats::seat;
 use super::whole;
 
 /// U equal to V, or below it.
@@ -31,11 +32,15 @@ pub fn code_malformed(rng: &mut Rng, draft: &mut Draft) {
     }
 }
 
-/// Q just above K or H, sometimes beyond the range of lots too (5 comes first).
+/// Q of one seat just above its K or H, sometimes beyond the range of lots too (5 comes first). The other seats may hold more
+/// than enough: the sum is not asked.
 pub fn pending_over_held(rng: &mut Rng, draft: &mut Draft) {
-    let terms = draft.terms.clone();
+    let down = draft.terms.down;
     if let Some(group) = any_group(rng, draft) {
-        group.unfilled = group.locked_held(&terms) + rng.between(1, 3);
+        let place = rng.place(group.seats.len().max(1));
+        if let Some(seat) = group.seats.get_mut(place) {
+            seat.unfilled = if down { seat.long } else { seat.short } + rng.between(1, 3);
+        }
     }
 }
 
@@ -66,6 +71,7 @@ pub fn closing_broken(rng: &mut Rng, draft: &mut Draft) {
 /// one before has too few trades.
 pub fn one_too_many(rng: &mut Rng, draft: &mut Draft) {
     *draft = whole::of_count(rng, 257);
+    seat(rng, draft);
     match rng.below(4) {
         0 => draft.groups[256].code = draft.groups[rng.place(256)].code.clone(),
         1 => malform(rng, &mut draft.groups[256].code),
@@ -104,7 +110,7 @@ pub fn price_beyond(rng: &mut Rng, draft: &mut Draft) {
     }
 }
 
-fn any_group<'a>(rng: &mut Rng, draft: &'a mut Draft) -> Option<&'a mut Group> {
+pub fn any_group<'a>(rng: &mut Rng, draft: &'a mut Draft) -> Option<&'a mut Group> {
     if draft.groups.is_empty() {
         return None;
     }
@@ -137,7 +143,7 @@ fn leave_lots(group: &mut Group, bought: bool, lots: u32) {
 }
 
 /// Empty, too long, or with a byte that no code has.
-fn malform(rng: &mut Rng, code: &mut Vec<u8>) {
+pub fn malform(rng: &mut Rng, code: &mut Vec<u8>) {
     match rng.below(4) {
         0 => code.clear(),
         1 => code.resize(13, b'A'),

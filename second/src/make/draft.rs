@@ -31,14 +31,26 @@ impl Trade {
     }
 }
 
+/// A customer. What it holds is drafted as one position, which is then divided over seats; only these are written.
 #[derive(Clone, Debug)]
 pub struct Group {
+    pub code: Vec<u8>,
+    /// The sums over all seats.
+    pub long: u32,
+    pub short: u32,
+    pub unfilled: u32,
+    /// None until the draft is seated.
+    pub seats: Vec<Seat>,
+    /// Oldest first, until the draft is arranged; then in the order of the book.
+    pub trades: Vec<Trade>,
+}
+
+#[derive(Clone, Debug)]
+pub struct Seat {
     pub code: Vec<u8>,
     pub long: u32,
     pub short: u32,
     pub unfilled: u32,
-    /// Oldest first, until the draft is arranged; then in the order of the book.
-    pub trades: Vec<Trade>,
 }
 
 #[derive(Clone, Debug)]
@@ -63,9 +75,10 @@ pub struct Draft {
 
 impl Draft {
     pub fn bytes(&self) -> Vec<u8> {
-        // No trade field has more than 33 bytes, no group more than 45 beside them.
+        // No trade field has more than 33 bytes, no seat more than 45, no group more than 16 beside them.
         let trades: usize = self.groups.iter().map(|group| group.trades.len()).sum();
-        let most = 50 + 45 * self.groups.len() + 33 * trades;
+        let seats: usize = self.groups.iter().map(|group| group.seats.len()).sum();
+        let most = 50 + 16 * self.groups.len() + 45 * seats + 33 * trades;
         let mut book = Book {
             bytes: Vec::with_capacity(most),
         };
@@ -96,9 +109,12 @@ impl Book {
 
     fn group(&mut self, group: &Group, decimals: u32) {
         self.field(b'C', |value| value.extend_from_slice(&group.code));
-        self.field(b'K', |value| digits(value, group.long, 1));
-        self.field(b'H', |value| digits(value, group.short, 1));
-        self.field(b'Q', |value| digits(value, group.unfilled, 1));
+        for seat in &group.seats {
+            self.field(b'I', |value| value.extend_from_slice(&seat.code));
+            self.field(b'K', |value| digits(value, seat.long, 1));
+            self.field(b'H', |value| digits(value, seat.short, 1));
+            self.field(b'Q', |value| digits(value, seat.unfilled, 1));
+        }
         for trade in &group.trades {
             let tag = if trade.bought { b'B' } else { b'A' };
             self.field(tag, |value| write_trade(value, trade, decimals));

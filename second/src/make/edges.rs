@@ -3,9 +3,10 @@
 use super::at_price;
 use super::bounds;
 use super::codes;
-use super::draft::{Draft, Group, Terms, Trade, MOST_LOTS, MOST_PRICE, MOST_RATE};
+use super::draft::{Draft, Group, Seat, Terms, Trade, MOST_LOTS, MOST_PRICE, MOST_RATE};
 use super::groups::{group, Position};
 use super::rng::Rng;
+use super::seats;
 use super::sizes;
 use super::trades::{lots, Depth};
 use super::whole;
@@ -14,16 +15,19 @@ type Make = fn(&mut Rng) -> Draft;
 
 /// The kinds with their weights: books of tens of thousands of bytes are rare, so
 /// that millions of books are made quickly.
-const KINDS: [(u64, (&str, Make)); 12] = [
+const KINDS: [(u64, (&str, Make)); 15] = [
     (27, ("edge price", at_price::draft)),
     (10, ("price bound", bounds::draft)),
     (3, ("about a hundred trades", sizes::about_a_hundred)),
-    (25, ("ties", ties)),
+    (19, ("ties", ties)),
+    (6, ("tied seats", tied_seats)),
     (10, ("nested codes", nested_codes)),
     (8, ("no net position", no_net)),
     (8, ("pending above net", pending_above_net)),
     (6, ("largest figures", largest_figures)),
     (1, ("largest totals", largest_totals)),
+    (1, ("largest sums", largest_sums)),
+    (1, ("longest reports", longest_reports)),
     (2, ("customer count", customer_count)),
     (1, ("exact size", sizes::exact)),
     (1, ("many trades", sizes::many_trades)),
@@ -57,6 +61,26 @@ fn ties(rng: &mut Rng) -> Draft {
             let weight = rng.pick(&weights[..kinds]);
             let on_locked_side = rng.one_in(2);
             sharing(rng, &terms, code, on_locked_side, weight)
+        })
+        .collect();
+    Draft { terms, groups }
+}
+
+/// Equal remainders between the seats of a customer: few customers with two to four seats that are much alike, so that what
+/// each of them gives or gets is rarely a multiple of its seats.
+fn tied_seats(rng: &mut Rng) -> Draft {
+    let terms = whole::terms(rng);
+    let count = rng.between(2, 6) as usize;
+    let most = rng.pick(&[3, 12, 1_000, 4 * MOST_LOTS]);
+    let codes = codes::mixed(rng, count);
+    let groups = codes
+        .into_iter()
+        .map(|code| {
+            let on_locked_side = rng.one_in(2);
+            let net = rng.between(1, most);
+            let mut group = sharing(rng, &terms, code, on_locked_side, net);
+            seats::alike(rng, &terms, &mut group);
+            group
         })
         .collect();
     Draft { terms, groups }
@@ -99,6 +123,85 @@ fn largest_totals(rng: &mut Rng) -> Draft {
     Draft { terms, groups }
 }
 
+/// Up to 256 customers with up to 4,000,000 lots each at four seats, mostly pending: the residue has ten digits. Prices are one
+/// digit, so that four trades of a million lots for each have room.
+fn largest_sums(rng: &mut Rng) -> Draft {
+    let terms = Terms {
+        down: rng.one_in(2),
+        decimals: 0,
+        settlement: 5,
+        loss_edge: rng.pick(&[8_000, 80_000]),
+        tier1_edge: rng.pick(&[8_000, 80_001]),
+        tier2_edge: 4_000,
+    };
+    let count = rng.between(240, 256);
+    let others = rng.pick(&[0, 0, 1, count / 2, count]);
+    let codes = codes::any(rng, count as usize);
+    let groups = codes
+        .into_iter()
+        .map(|code| {
+            let on_locked_side = rng.between(1, count) > others;
+            let net = 4 * MOST_LOTS - rng.pick(&[0, 0, 0, 1]);
+            // 80 percent of S: a whole price above or below it.
+            let total = if on_locked_side { -4 } else { 4 } * i64::from(net);
+            let at = Position {
+                on_locked_side,
+                net,
+                total,
+            };
+            let mut group = exact(rng, &terms, code, at);
+            seats::full(rng, &terms, &mut group);
+            group
+        })
+        .collect();
+    Draft { terms, groups }
+}
+
+/// Up to 256 customers with codes of twelve bytes, each with four such seats and about a million lots: reports of some 32,000
+/// bytes.
+fn longest_reports(rng: &mut Rng) -> Draft {
+    let terms = whole::terms(rng);
+    let count = rng.between(250, 256) as usize;
+    let codes = codes::longest(rng, count);
+    let groups = codes
+        .into_iter()
+        .map(|code| {
+            let on_locked_side = rng.one_in(2);
+            let net = MOST_LOTS - rng.between(0, 3);
+            let total = if on_locked_side {
+                -terms.reaching(terms.loss_edge, net)
+            } else {
+                terms.reaching(terms.tier1_edge, net)
+            };
+            let at = Position {
+                on_locked_side,
+                net,
+                total,
+            };
+            let mut group = exact(rng, &terms, code, at);
+            let codes = codes::longest(rng, 4);
+            seats::with_codes(rng, &terms, &mut group, codes);
+            group
+        })
+        .collect();
+    Draft { terms, groups }
+}
+
+/// A customer that holds its net position alone, by the trades that count and no others; all of it is pending on the locked side.
+fn exact(rng: &mut Rng, terms: &Terms, code: Vec<u8>, at: Position) -> Group {
+    let none = Depth {
+        splits: 0,
+        older: 0,
+        other: 0,
+    };
+    let mut group = group(rng, terms, code, at, none);
+    let both = group.long.min(group.short);
+    group.long -= both;
+    group.short -= both;
+    group.unfilled = if at.on_locked_side { at.net } else { 0 };
+    group
+}
+
 /// A whole book whose codes begin one another: A, AA, A0, AAA.
 fn nested_codes(rng: &mut Rng) -> Draft {
     let mut draft = whole::draft(rng);
@@ -129,7 +232,7 @@ fn no_net(rng: &mut Rng) -> Draft {
 fn pending_above_net(rng: &mut Rng) -> Draft {
     let mut draft = whole::draft(rng);
     for group in &mut draft.groups {
-        let more = lots(rng).min(MOST_LOTS - group.long.max(group.short));
+        let more = lots(rng).min(4 * MOST_LOTS - group.long.max(group.short));
         group.long += more;
         group.short += more;
         let held = group.locked_held(&draft.terms);
@@ -169,34 +272,40 @@ fn largest_figures(rng: &mut Rng) -> Draft {
     let codes = codes::mixed(rng, count as usize);
     let groups = codes
         .into_iter()
-        .map(|code| largest_group(rng, &terms, code))
+        .map(|code| largest_group(rng, &terms, code, if count == 256 { 1 } else { 4 }))
         .collect();
     Draft { terms, groups }
 }
 
-fn largest_group(rng: &mut Rng, terms: &Terms, code: Vec<u8>) -> Group {
+/// Every seat's figures at an end of their range, so that the sums are too.
+fn largest_group(rng: &mut Rng, terms: &Terms, code: Vec<u8>, most_seats: u32) -> Group {
     let held = [0, 1, MOST_LOTS - 1, MOST_LOTS];
-    let (long, short) = (rng.pick(&held), rng.pick(&held));
-    // The oldest trade on either side reaches every position.
-    let mut trades = vec![
-        largest_trade(rng, terms, true),
-        largest_trade(rng, terms, false),
-    ];
-    trades.iter_mut().for_each(|trade| trade.lots = MOST_LOTS);
+    let count = rng.between(1, most_seats);
+    // The oldest trades on either side reach every position.
+    let mut trades: Vec<Trade> = (0..2 * count)
+        .map(|nth| Trade {
+            lots: MOST_LOTS,
+            ..largest_trade(rng, terms, nth % 2 == 0)
+        })
+        .collect();
     for _ in 0..rng.between(0, 3) {
         let bought = rng.one_in(2);
         trades.push(largest_trade(rng, terms, bought));
     }
-    let mut group = Group {
-        code,
-        long,
-        short,
-        unfilled: 0,
-        trades,
-    };
-    let most = group.locked_held(terms);
-    group.unfilled = rng.pick(&[0, most.min(1), most, most]);
-    group
+    let seats = seats::codes(rng, count as usize)
+        .into_iter()
+        .map(|code| {
+            let (long, short) = (rng.pick(&held), rng.pick(&held));
+            let most = if terms.down { long } else { short };
+            Seat {
+                code,
+                long,
+                short,
+                unfilled: rng.pick(&[0, most.min(1), most, most]),
+            }
+        })
+        .collect();
+    Group::of_seats(code, seats, trades)
 }
 
 fn largest_trade(rng: &mut Rng, terms: &Terms, bought: bool) -> Trade {

@@ -1,6 +1,6 @@
 //! Customer groups made for a wanted position.
 
-use super::draft::{Group, Terms, MOST_LOTS};
+use super::draft::{Group, Seat, Terms, Trade, MOST_LOTS};
 use super::rng::Rng;
 use super::trades::{loose_trades, lots, trades, Depth, Wanted};
 
@@ -41,6 +41,7 @@ pub fn group(rng: &mut Rng, terms: &Terms, code: Vec<u8>, at: Position, depth: D
         long,
         short,
         unfilled,
+        seats: Vec::new(),
         trades,
     }
 }
@@ -50,11 +51,24 @@ fn both_sides(rng: &mut Rng, net: u32) -> u32 {
     if rng.one_in(2) {
         0
     } else {
-        lots(rng).min(MOST_LOTS - net)
+        lots(rng).min(4 * MOST_LOTS - net)
     }
 }
 
 impl Group {
+    /// A customer that holds what its seats hold.
+    pub fn of_seats(code: Vec<u8>, seats: Vec<Seat>, trades: Vec<Trade>) -> Self {
+        let sum = |lots: fn(&Seat) -> u32| seats.iter().map(lots).sum();
+        Group {
+            code,
+            long: sum(|seat| seat.long),
+            short: sum(|seat| seat.short),
+            unfilled: sum(|seat| seat.unfilled),
+            seats,
+            trades,
+        }
+    }
+
     /// The net position in lots.
     pub fn net(&self) -> u32 {
         self.long.abs_diff(self.short)

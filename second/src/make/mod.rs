@@ -2,8 +2,8 @@
 //!
 //! A book is drafted as numbers ([`draft`]), in one of three families: whole books
 //! ([`whole`]), books at the edges of the rules ([`edges`]) and damaged books
-//! ([`damage`]). Then the trades get their stamps and the order of an export
-//! ([`stamps`]). The generator knows how a book is written but takes no code from
+//! ([`damage`]). Then the customers' positions are divided over seats ([`seats`]), and
+//! the trades get their stamps and the order of an export ([`stamps`]). The generator knows how a book is written but takes no code from
 //! the reader, so a mistake there isn't hidden here. The same seed and index make
 //! the same bytes on every machine.
 
@@ -14,17 +14,20 @@ mod damage;
 mod damage_bytes;
 mod damage_draft;
 mod damage_prices;
+mod damage_seats;
 mod damage_stamps;
 mod draft;
 mod edges;
 mod groups;
 mod rng;
+mod seats;
 mod sizes;
 mod stamps;
 mod trades;
 mod whole;
 
 use rng::Rng;
+use seats::seat;
 use stamps::arrange;
 
 /// What a generated book is meant to try.
@@ -65,6 +68,7 @@ pub fn book(seed: u64, index: u64) -> Made {
             };
         }
     };
+    seat(rng, &mut draft);
     arrange(rng, &mut draft);
     Made {
         family,

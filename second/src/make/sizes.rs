@@ -2,6 +2,7 @@
 
 use super::draft::{Draft, Group, Terms, Trade, MOST_LOTS, MOST_PRICE};
 use super::rng::Rng;
+use super::seats::seat;
 use super::whole;
 
 /// How many bytes a trade field may have, with a price between the bounds.
@@ -56,6 +57,7 @@ impl Bytes {
 pub fn exact(rng: &mut Rng) -> Draft {
     let count = rng.between(1, 8) as usize;
     let mut draft = whole::of_count(rng, count);
+    seat(rng, &mut draft);
     let size = rng.pick(&[59_999, 60_000, 60_001]);
     let bytes = Bytes::of(&draft.terms);
     let padding = padding(rng, bytes, size - draft.bytes().len());
@@ -116,13 +118,13 @@ pub fn many_trades(rng: &mut Rng) -> Draft {
     // yuan, where such a trade may have 26 bytes, to more than 31 bits hold. Short trades have low
     // prices, and so S is low too.
     let (shortest, (least, most), most_of_them) = if terms.decimals == 0 {
-        (9, (2_150, 2_230), 2_850)
+        (9, (2_150, 2_200), 2_850)
     } else {
-        (999, (1_000, 2_000), 2_500)
+        (999, (1_000, 1_950), 2_500)
     };
     let (highest, least_lots, most_lots, least_trades, most_trades) = rng.pick(&[
-        (MOST_PRICE, 1, 600, 1_000, 2_000),
-        (999, 1, MOST_LOTS, 1_000, 2_000),
+        (MOST_PRICE, 1, 600, 1_000, 1_950),
+        (999, 1, MOST_LOTS, 1_000, 1_950),
         (shortest, MOST_LOTS, MOST_LOTS, least, most),
         (shortest, 1, 9, 1_000, most_of_them),
     ]);

@@ -38,7 +38,11 @@ pub fn trades(rng: &mut Rng, wanted: Wanted, depth: Depth) -> Vec<Trade> {
         split(rng, wanted, &mut parts);
     }
     rng.shuffle(&mut parts);
-    let mut newest_first: Vec<Trade> = parts.iter().map(|&part| trade(wanted, part)).collect();
+    let mut newest_first: Vec<Trade> = parts
+        .into_iter()
+        .flat_map(no_larger_than_a_trade)
+        .map(|part| trade(wanted, part))
+        .collect();
     lengthen_oldest(rng, &mut newest_first);
     for _ in 0..rng.between(0, depth.older) {
         newest_first.push(loose(rng, wanted, wanted.long));
@@ -69,6 +73,14 @@ fn even_parts(wanted: Wanted) -> Vec<Part> {
     let each = wanted.total.div_euclid(i64::from(wanted.net));
     let more = wanted.total.rem_euclid(i64::from(wanted.net)) as u32;
     let mut parts = vec![(wanted.net - more, each), (more, each + 1)];
+    parts.retain(|&(lots, _)| lots > 0);
+    parts
+}
+
+/// The sums of several seats can be more lots than one trade may have.
+fn no_larger_than_a_trade((lots, gain): Part) -> Vec<Part> {
+    let mut parts = vec![(MOST_LOTS, gain); (lots / MOST_LOTS) as usize];
+    parts.push((lots % MOST_LOTS, gain));
     parts.retain(|&(lots, _)| lots > 0);
     parts
 }

@@ -88,6 +88,8 @@ pub struct Line {
     pub code: Vec<u8>,
     pub standing: char,
     pub offset: u64,
+    /// Codes and lots, in the customer's order.
+    pub seats: Vec<(Vec<u8>, u64)>,
 }
 
 /// Reads a report and insists on its form.
@@ -96,20 +98,32 @@ pub fn report(bytes: &[u8]) -> Report {
     let [(b'T', total), (b'R', residue), customers @ ..] = fields.as_slice() else {
         panic!("a report begins with T and R");
     };
-    let lines = customers.chunks(3).map(|chunk| {
-        let [(b'C', code), (b'E', [standing]), (b'O', offset)] = chunk else {
-            panic!("a customer is C, E and O");
-        };
-        Line {
-            code: code.to_vec(),
-            standing: char::from(*standing),
-            offset: number(offset),
-        }
-    });
+    let lines = customers
+        .chunk_by(|_, (tag, _)| *tag != b'C')
+        .map(line)
+        .collect();
     Report {
         total: number(total),
         residue: number(residue),
-        lines: lines.collect(),
+        lines,
+    }
+}
+
+/// One customer: C, E, O, and I and J for each of one to four seats.
+fn line(fields: &[(u8, &[u8])]) -> Line {
+    let [(b'C', code), (b'E', [standing]), (b'O', offset), seats @ ..] = fields else {
+        panic!("a customer begins with C, E and O");
+    };
+    assert!(matches!(seats.len(), 2 | 4 | 6 | 8), "one to four seats");
+    let seats = seats.chunks(2).map(|seat| match seat {
+        [(b'I', code), (b'J', lots)] => (code.to_vec(), number(lots)),
+        _ => panic!("a seat is I and J"),
+    });
+    Line {
+        code: code.to_vec(),
+        standing: char::from(*standing),
+        offset: number(offset),
+        seats: seats.collect(),
     }
 }
 
@@ -136,6 +150,21 @@ pub fn parts(book: &[u8]) -> (Vec<u8>, Vec<Vec<u8>>) {
         }
     }
     (terms, groups)
+}
+
+/// Tags and values.
+pub type Fields<'a> = [(u8, &'a [u8])];
+
+/// A customer's fields up to its last seat, and its trades.
+pub fn cut<'a, 'b>(group: &'a Fields<'b>) -> (&'a Fields<'b>, &'a Fields<'b>) {
+    let is_trade = |(tag, _): &(u8, &[u8])| b"BA".contains(tag);
+    group.split_at(group.iter().position(is_trade).unwrap_or(group.len()))
+}
+
+/// The sum of the figures with this tag.
+pub fn sum(group: &[(u8, &[u8])], tag: u8) -> u64 {
+    let of_tag = group.iter().filter(|(name, _)| *name == tag);
+    of_tag.map(|(_, value)| number(value)).sum()
 }
 
 /// The parts put together again, with `Z`.

@@ -2,7 +2,7 @@
 //! as text, every trade held against every other for which is newer, its counted part by a
 //! formula, spare lots given one at a time by looking at everybody.
 
-use super::{fields, Line, Report};
+use super::{cut, fields, sum, Line, Report};
 
 /// A customer with the numbers that its standing rests on.
 #[derive(Clone, Debug)]
@@ -12,6 +12,8 @@ pub struct Person {
     /// Counted pending or offered lots.
     pub stake: u64,
     pub offset: u64,
+    /// The code of each seat, what the offset is divided by there, and its lots.
+    pub seats: Vec<(Vec<u8>, u64, u64)>,
     /// For each edge, `L`, `U`, `V` or `0`, that the customer's side is tested by: the
     /// gain or loss less the edge, times 100,000.
     pub distances: Vec<(char, i128)>,
@@ -23,6 +25,8 @@ pub struct Worked {
     pub people: Vec<Person>,
     /// Divisions in which equal remainders had to be settled by the code.
     pub settled_by_code: u64,
+    /// The same between the seats of a customer.
+    pub seats_settled_by_code: u64,
 }
 
 struct Terms {
@@ -105,12 +109,12 @@ pub fn work_by(newer: Newer, book: &[u8]) -> Worked {
     cascade(people)
 }
 
-/// The standing of a group's fields: C, K, H, Q and trades.
+/// The standing of a group's fields: C, then I, K, H and Q of each seat, and trades.
 fn person(terms: &Terms, group: &[(u8, &[u8])]) -> Person {
-    let (long, short) = (figure(group[1].1), figure(group[2].1));
-    let unfilled = figure(group[3].1);
+    let (head, trades) = cut(group);
+    let [long, short, unfilled] = [b'K', b'H', b'Q'].map(|tag| i128::from(sum(head, tag)));
     let net = (long - short).abs();
-    let gain = gain(terms, long > short, net, &group[4..]);
+    let gain = gain(terms, long > short, net, trades);
     let on_locked_side = net > 0 && (long > short) == terms.locked_long;
     let on_other_side = net > 0 && !on_locked_side;
     let [l, u, v] = terms.edges.map(|rate| rate * terms.settlement * net);
@@ -134,13 +138,36 @@ fn person(terms: &Terms, group: &[(u8, &[u8])]) -> Person {
         let edges = [('U', u), ('V', v), ('0', 0)];
         distances.extend(edges.map(|(name, edge)| (name, gain * 100_000 - edge)));
     }
+    let weighed_by = match standing {
+        'P' => b'Q',
+        'N' => b'C',
+        _ if long > short => b'K',
+        _ => b'H',
+    };
+    let seats = head[1..].chunks(4).map(|seat| {
+        let weight = sum(seat, weighed_by);
+        (seat[0].1.to_vec(), weight, 0)
+    });
     Person {
         code: group[0].1.to_vec(),
         standing,
         stake: stake as u64,
         offset: 0,
+        seats: seats.collect(),
         distances,
     }
+}
+
+/// Divides a person's offset over its seats, and tells whether the code had to settle it.
+fn give_seats(person: &mut Person) -> bool {
+    let members: Vec<(Vec<u8>, u64)> = (person.seats.iter())
+        .map(|(code, weight, _)| (code.clone(), *weight))
+        .collect();
+    let (shares, settled) = divide(person.offset, &members);
+    for ((_, _, lots), share) in person.seats.iter_mut().zip(shares) {
+        *lots = share;
+    }
+    settled
 }
 
 /// A trade's counted part: the net position less all newer lots, at most its own lots
@@ -195,10 +222,17 @@ fn cascade(mut people: Vec<Person>) -> Worked {
         }
         total += quantity;
     }
+    let seats_settled_by_code = people
+        .iter_mut()
+        .filter_map(|one| give_seats(one).then_some(1));
+    let seats_settled_by_code = seats_settled_by_code.sum();
     let lines = people.iter().map(|person| Line {
         code: person.code.clone(),
         standing: person.standing,
         offset: person.offset,
+        seats: (person.seats.iter())
+            .map(|(code, _, lots)| (code.clone(), *lots))
+            .collect(),
     });
     let report = Report {
         total,
@@ -209,6 +243,7 @@ fn cascade(mut people: Vec<Person>) -> Worked {
         report,
         people,
         settled_by_code,
+        seats_settled_by_code,
     }
 }
 

@@ -50,7 +50,8 @@ enum Metal {
     Silver,
 }
 
-/// Customers of one shape: how many, how many bytes in all, the kind of each, and how many different lots its trades have.
+/// Customers of one shape: how many, how many bytes in all (with one seat for each; further ones come on top), the kind of each, how
+/// many different lots its trades have, and how many seats.
 struct Shape {
     metal: Metal,
     customers: u64,
@@ -58,6 +59,7 @@ struct Shape {
     kind: fn(u64) -> Kind,
     lots: u64,
     order: Order,
+    seats: u64,
 }
 
 /// S 400.00 with gold's edges, locked at the lower limit.
@@ -90,6 +92,7 @@ pub fn all() -> Vec<Book> {
         named("typical, by clock", typical(Order::ByClock)),
         named("typical, shuffled", typical(Order::Shuffled)),
         named("typical, silver", typical_silver()),
+        named("typical, four seats", typical_of(Order::InTime, 4)),
         named("dense", dense(Order::InTime)),
         named("dense, shuffled", dense(Order::Shuffled)),
         named("one tier", one_tier(Order::InTime)),
@@ -127,6 +130,7 @@ pub fn growing() -> Vec<Book> {
                 kind: typical_kind,
                 lots: 30,
                 order: Order::InTime,
+                seats: 1,
             }),
         )
     };
@@ -205,6 +209,11 @@ fn sold(price: u64, lots: u64) -> Trade {
 }
 
 fn typical(order: Order) -> Vec<u8> {
+    typical_of(order, 1)
+}
+
+/// The typical book with so many seats for each customer: the same customers, positions and trades.
+fn typical_of(order: Order, seats: u64) -> Vec<u8> {
     shaped(&Shape {
         metal: Metal::Gold,
         customers: 256,
@@ -212,6 +221,7 @@ fn typical(order: Order) -> Vec<u8> {
         kind: typical_kind,
         lots: 30,
         order,
+        seats,
     })
 }
 
@@ -224,6 +234,7 @@ fn typical_silver() -> Vec<u8> {
         kind: typical_kind,
         lots: 30,
         order: Order::InTime,
+        seats: 1,
     })
 }
 
@@ -236,6 +247,7 @@ fn dense(order: Order) -> Vec<u8> {
         kind: dense_kind,
         lots: 1,
         order,
+        seats: 1,
     })
 }
 
@@ -251,6 +263,7 @@ fn one_tier(order: Order) -> Vec<u8> {
         },
         lots: 4,
         order,
+        seats: 1,
     })
 }
 
@@ -261,7 +274,7 @@ fn one_customer(part: u64, order: Order) -> Vec<u8> {
 
 /// The same of a book of about so many bytes.
 fn one_customer_of(bytes: u64, part: u64, order: Order) -> Vec<u8> {
-    let head = terms().len() as u64 + 3 * 4 + 8 + 6 + 1 + 6;
+    let head = terms().len() as u64 + 3 * 5 + 8 + 2 + 6 + 1 + 6;
     let room = bytes - head - 3;
     // A trade of 3 digits of lots takes 27 bytes; those of 4 digits take up what is left.
     let (count, long) = (room / 27, room % 27);
@@ -291,8 +304,8 @@ fn most_trades(order: Order) -> Vec<u8> {
     for (tag, value) in TERMS {
         put(&mut book, tag, if tag == b'S' { "4.00" } else { value });
     }
-    // Code, K, H and Q take up to 26 bytes, and Z takes 3.
-    let count = (LONGEST - book.len() as u64 - 26 - 3) / 23;
+    // Code, seat, K, H and Q take up to 31 bytes, and Z takes 3.
+    let count = (LONGEST - book.len() as u64 - 31 - 3) / 23;
     let mut trades: Vec<_> = (0..count)
         .map(|n| Trade {
             side: b'B',
@@ -381,18 +394,20 @@ fn dense_kind(who: u64) -> Kind {
 fn shaped(shape: &Shape) -> Vec<u8> {
     let mut book = terms_of(shape.metal);
     let start = book.len() as u64;
+    // What the further seats have taken so far.
+    let mut further = 0;
     for who in 0..shape.customers {
         // Each customer has trades up to its part of the bytes; the last leaves room for Z.
         let end = start + (shape.bytes - start - 3) * (who + 1) / shape.customers;
-        put_shaped(&mut book, shape, who, end);
+        further += put_shaped(&mut book, shape, who, end + further);
     }
     closed(book)
 }
 
-/// One customer of a shape, with trades as long as the book stays within `end`.
-fn put_shaped(book: &mut Vec<u8>, shape: &Shape, who: u64, end: u64) {
+/// One customer of a shape, with trades as long as the book stays within `end`, but for its further seats. Answers what these take.
+fn put_shaped(book: &mut Vec<u8>, shape: &Shape, who: u64, end: u64) -> u64 {
     let kind = (shape.kind)(who);
-    let bytes = end.saturating_sub(book.len() as u64 + 3 * 4 + 12 + 8);
+    let bytes = end.saturating_sub(book.len() as u64 + 3 * 5 + 12 + 2 + 8);
     let mut trades: Vec<_> = (0..(bytes / shape.metal.trade_bytes()).max(2))
         .map(|n| Trade {
             // A trade every three or four hours: by the clock most customers have a night after a day.
@@ -405,7 +420,18 @@ fn put_shaped(book: &mut Vec<u8>, shape: &Shape, who: u64, end: u64) {
     // Some of the oldest lots are closed again, a different number for each.
     let held = opened - mixed(who) % opened.min(9);
     let held = position(kind, held, who);
-    put_customer_of(shape.metal, book, &code(who), held, &trades);
+    let (code, before) = (code(who), book.len());
+    put_customer_of(shape.metal, book, &code, &split(held, 1), &trades);
+    let alone = book.len() - before;
+    book.truncate(before);
+    put_customer_of(shape.metal, book, &code, &split(held, shape.seats), &trades);
+    (book.len() - before - alone) as u64
+}
+
+/// K, H and Q divided over so many seats, as evenly as whole lots allow.
+fn split(held: [u64; 3], seats: u64) -> Vec<[u64; 3]> {
+    let part = |seat: u64| held.map(|lots| lots / seats + u64::from(seat < lots % seats));
+    (0..seats).map(part).collect()
 }
 
 impl Metal {
@@ -510,15 +536,26 @@ fn terms_of(metal: Metal) -> Vec<u8> {
     book
 }
 
+/// A customer of gold with one seat.
 fn put_customer(book: &mut Vec<u8>, code: &str, held: [u64; 3], trades: &[Trade]) {
-    put_customer_of(Metal::Gold, book, code, held, trades);
+    put_customer_of(Metal::Gold, book, code, &[held], trades);
 }
 
-fn put_customer_of(metal: Metal, book: &mut Vec<u8>, code: &str, held: [u64; 3], trades: &[Trade]) {
+fn put_customer_of(
+    metal: Metal,
+    book: &mut Vec<u8>,
+    code: &str,
+    seats: &[[u64; 3]],
+    trades: &[Trade],
+) {
     put(book, b'C', code);
-    put(book, b'K', &held[0].to_string());
-    put(book, b'H', &held[1].to_string());
-    put(book, b'Q', &held[2].to_string());
+    // The seat with the largest code first: equal remainders go to the last.
+    for (nth, held) in seats.iter().enumerate() {
+        put(book, b'I', &format!("M{}", seats.len() - nth));
+        put(book, b'K', &held[0].to_string());
+        put(book, b'H', &held[1].to_string());
+        put(book, b'Q', &held[2].to_string());
+    }
     for trade in trades {
         let price = metal.written(trade.price);
         let (day, time) = stamp(trade.minute);

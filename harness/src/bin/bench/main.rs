@@ -20,11 +20,12 @@ use programs::Program;
 use timing::Times;
 
 /// The bars: how often the second program's time a book may take.
-const BARS: [(&str, f64); 8] = [
+const BARS: [(&str, f64); 9] = [
     ("small", 1.2),
     ("small, one customer", 1.2),
     ("typical", 0.9),
     ("typical, shuffled", 1.3),
+    ("typical, four seats", 0.9),
     ("dense", 0.9),
     ("one tier", 0.9),
     ("one customer", 0.9),

@@ -1,7 +1,7 @@
 //! The programs that are measured, called in the same way: the product, the second program, and the product worked in rows.
 
 /// More than any report takes.
-pub const ROOM: usize = 16_384;
+pub const ROOM: usize = 34_000;
 
 #[derive(Clone, Copy)]
 pub enum Program {
