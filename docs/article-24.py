@@ -1,5 +1,5 @@
 #!/usr/bin/env python3
-"""The figures of ARTICLE-24.md, points 1 to 4, with exact fractions; then random cases: article-24.py [COUNT [SEED]].
+"""The figures of ARTICLE-24.md, points 1 to 4 and 18, with exact fractions; then random cases: article-24.py [COUNT [SEED]].
 
 Rules: whole lots are made in each tier, and equal remainders go to the smaller code (RULES.md, sections 10 and 11).
 Article: every division is exact, and whole lots are made once at the end, by the fractional parts. Where equal parts
@@ -97,5 +97,8 @@ example("1, one large, eight small", {"P1": 4, **{f"P{i}": 1 for i in range(2, 1
 example("2, 5 over 3, 3, 3", {"A": 3, "B": 3, "C": 3}, [{"X": 5}, {}, {}])
 example("3, pending 10 counted", {"P1": 10, "P2": 4}, LISTING)
 example("4, with W4", {"P1": 6, "P2": 4}, [{"W1": 3, "W4": 10}, {"W2": 5}, {"W3": 1}])
+example("18, P1 in sum", {"P1": 6, "P2": 4}, LISTING)
+example("18, P1's two seats apart", {"P1": 6, "P2": 4}, [{"P1B": 2, "W1": 3}, {"W2": 5}, {"W3": 1}])
+print("18, 5 over seats of 7 and 2:", ", ".join(map(str, divide(5, {"A": 7, "B": 2}).values())))
 words = [int(word) for word in sys.argv[1:]]
 sys.exit(random_cases(*(words + [200000, 24][len(words):])))
