@@ -158,7 +158,7 @@ module _ (book : List ℕ) (r q : Worked) where
   same-worked (Refused number place) c d same e f = e ∙ sym f
   same-worked (Accepted terms cs) c d same e f =
       let n = e .1 .counted ∙ sym (f .1 .counted) in
-      e .0 ∙ (λ i. workedIn (cascadeColumns (same i .keys) (same i .standings) (same i .stakes) (n i))) ∙ sym (f .0)
+      e .0 ∙ (λ i. workedIn (terms .down) (cascadeColumns (same i .keys) (same i .standings) (same i .stakes) (n i))) ∙ sym (f .0)
 
 came-out : {book : List ℕ} {r q : Worked} {full : Columns} {k l m n k′ l′ m′ n′ : List ℕ} → CameOut book (judge book) full k l m n r → CameOut book (judge book) full k′ l′ m′ n′ q →
     (r ≡ q) × (rollColumns k l m n ≡ rollColumns k′ l′ m′ n′)
