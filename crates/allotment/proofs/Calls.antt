@@ -12,6 +12,7 @@ use Rattle.rules.specs.Report.{listingOf, listing}
 use Rattle.rules.specs.Answer.{fitted, answerOf, answer}
 use Rattle.rules.specs.Answer.{refused as refused01}
 use Rattle.laws.specs.Sane.{accepted-sane, refused-above}
+use Rattle.consequences.specs.ReportLength.{report-length}
 use Rattle.fields.specs.declared.Refusal.{Refusal}
 use Rattle.fields.specs.Reading.{noRefusal}
 use Rattle.cascade.specs.Columns.{columns}
@@ -21,7 +22,7 @@ use Rattle.roll.specs.Roll.{Room, Rolled, Held}
 use Rattle.report.specs.Sheet.{reportBytes, listingBytes, Placed}
 use Rattle.allotment.specs.declared.Closed.{Closed}
 use Rattle.allotment.specs.declared.Worked.{Worked}
-use Rattle.allotment.specs.Worked.{listingRoom, atFirst, closedOf, workedNot, sheetOf, Came}
+use Rattle.allotment.specs.Worked.{listingRoom, reportRoom, atFirst, closedOf, workedNot, sheetOf, Came}
 use Rattle.allotment.specs.Answered.{Judged}
 use Rattle.allotment.proofs.Start.{lines-are, start-steady}
 use Rattle.allotment.proofs.Shown.{lines-shown, report-is, listing-is, placed}
@@ -107,6 +108,7 @@ module _ (s keys starts standings stakes : List ℕ) (w : Worked) (e : Came s (j
   pub record Goes : Type 0 where
     pub placed : Placed s starts standings (w .offset) (w .count) (not (w .down))
     pub short : length (listingBytes (sheetOf s starts standings w)) ≤ listingRoom
+    pub fits : length (reportBytes (sheetOf s starts standings w)) ≤ reportRoom
     pub answers : (room : ℕ) → answer s room ≡ fitted room (reportBytes (sheetOf s starts standings w))
     pub lists : listing s ≡ listingBytes (sheetOf s starts standings w)
     pub judged : Judged (judge s) 0 0
@@ -123,6 +125,7 @@ module _ (s keys starts standings stakes : List ℕ) (w : Worked) (e : Came s (j
           record {
             placed = h .placed;
             short = h .short;
+            fits = rw (h .reports) (omega (arith, report-length s terms cs j, accepted-sane s terms cs j .few));
             answers = λ room. ap (answerOf room) j ∙ ap (fitted room) (sym (h .reports));
             lists = ap listingOf j ∙ sym (h .lists);
             judged = subst (λ (v : Verdict). Judged v 0 0) (sym j) (refl, refl);

@@ -28,6 +28,10 @@ use Rattle.allotment.specs.declared.Worked.{Worked}
 abbrev pub listingRoom : ℕ
 listingRoom = 8_192
 
+-- and one that every report fits
+abbrev pub reportRoom : ℕ
+reportRoom = 33_050
+
 -- the cascade's state before tier 1
 abbrev pub atFirst : Cascade
 atFirst = record { offset = replicate mostCustomers 0; total = 0 }

@@ -15,10 +15,13 @@ ghost use Rattle.roll.specs.Roll.{Room, filledBy};
 ghost use Rattle.roll.specs.Roll.{columns as filledWith};
 ghost use Rattle.report.specs.Sheet.{sheet, reportBytes, Placed};
 ghost use Rattle.allotment.specs.Answered.{Answered, Listed, Judged};
-ghost use Rattle.allotment.specs.Worked.{listingRoom, atFirst, closedOf, CameOut};
+ghost use Rattle.allotment.specs.Worked.{listingRoom, reportRoom, atFirst, closedOf, CameOut};
 
 // A buffer that every listing fits: 256 lines of at most 26 bytes, and at most 33 before them.
 pub const LISTING_ROOM: usize = 8_192;
+
+// A buffer that every report fits: 256 customers of at most 129 bytes, and at most 26 before them.
+pub const REPORT_ROOM: usize = 33_050;
 
 // What the cascade leaves: each customer's offset, the total and the residue.
 pub struct Closed {
@@ -124,8 +127,8 @@ pub struct Answer {
     pub length: u64,
 }
 
-// 11, or the report at the front of the lent buffer. Who is in a tier is net long, or net short, by `long`: on the side that is not locked.
-fn report_lines(
+// The report at the front of a lent buffer that has room for it.
+fn write_lines(
     book: &[u8],
     starts: &[u16],
     standings: &[u8],
@@ -136,26 +139,9 @@ fn report_lines(
     long: bool,
     report: &mut [u8],
 ) -> Answer
-    requires { ⌜ Placed (now book) (now starts) (now standings) (now offset) count long ⌝ }
+    requires { ⌜ Placed (now book) (now starts) (now standings) (now offset) count long ⌝ ∗ ⌜ length (reportBytes (sheet (now book) (now starts) (now standings) (now offset) count total residue)) ≤ length (now report) ⌝ }
     ensures { λ r. ⌜ Answered (fitted (length (now (report .entry))) (reportBytes (sheet (now (book .entry)) (now (starts .entry)) (now (standings .entry)) (now (offset .entry)) count total residue))) r (now (report .entry)) (now (report .exit)) ⌝ }
 {
-    let needed = report::report_length(
-        book,
-        starts,
-        standings,
-        offset,
-        count,
-        total,
-        residue,
-        long,
-    );
-    if report.len() < needed {
-        return Answer {
-            number: refusal::NO_ROOM,
-            place: needed as u64,
-            length: 0,
-        };
-    }
     let length = report::put_sheet(
         report,
         book,
@@ -173,6 +159,65 @@ fn report_lines(
         place: 0,
         length: length as u64,
     }
+}
+
+// 11, or the report at the front of the lent buffer. Who is in a tier is net long, or net short, by `long`: on the side that is not locked.
+// Where the buffer is one that every report fits, the length needed is not worked out first: each customer's seats are divided once.
+fn report_lines(
+    book: &[u8],
+    starts: &[u16],
+    standings: &[u8],
+    offset: &[u32],
+    count: usize,
+    total: u64,
+    residue: u64,
+    long: bool,
+    report: &mut [u8],
+) -> Answer
+    requires { ⌜ Placed (now book) (now starts) (now standings) (now offset) count long ⌝ ∗ ⌜ length (reportBytes (sheet (now book) (now starts) (now standings) (now offset) count total residue)) ≤ reportRoom ⌝ }
+    ensures { λ r. ⌜ Answered (fitted (length (now (report .entry))) (reportBytes (sheet (now (book .entry)) (now (starts .entry)) (now (standings .entry)) (now (offset .entry)) count total residue))) r (now (report .entry)) (now (report .exit)) ⌝ }
+{
+    if REPORT_ROOM <= report.len() {
+        return write_lines(
+            book,
+            starts,
+            standings,
+            offset,
+            count,
+            total,
+            residue,
+            long,
+            report,
+        );
+    }
+    let needed = report::report_length(
+        book,
+        starts,
+        standings,
+        offset,
+        count,
+        total,
+        residue,
+        long,
+    );
+    if report.len() < needed {
+        return Answer {
+            number: refusal::NO_ROOM,
+            place: needed as u64,
+            length: 0,
+        };
+    }
+    write_lines(
+        book,
+        starts,
+        standings,
+        offset,
+        count,
+        total,
+        residue,
+        long,
+        report,
+    )
 }
 
 // A book and a lent buffer: the answer, and the report at the front of the buffer where the book is accepted. All else in the buffer

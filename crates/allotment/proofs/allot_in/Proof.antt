@@ -48,7 +48,7 @@ slice-aggregate-report-lines-3 : tie.Need-slice-aggregate-report-lines-3
 slice-aggregate-report-lines-3 c = search needs
 
 report-lines-requires : tie.Need-report-lines-requires
-report-lines-requires c κs = gone (c .before .before .before .before .before .before) .placed
+report-lines-requires c κs = let g = gone (c .before .before .before .before .before .before) in (g .placed, g .fits)
 
 same-length : tie.Need-same-length
 same-length c = search needs
