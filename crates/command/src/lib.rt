@@ -31,7 +31,7 @@ pub struct Seen {
 }
 
 // Whether two words have the same bytes.
-fn is(word: &[u8], other: &[u8]) -> bool
+pub fn is(word: &[u8], other: &[u8]) -> bool
     ensures { λ r. ⌜ r ≡ same (now (word .entry)) (now (other .entry)) ⌝ }
 {
     if word.len() != other.len() {

@@ -7,6 +7,8 @@ ghost use Rattle.rules.specs.Answer.{fitted, answer};
 ghost use Rattle.reasons.specs.Reason.{fieldAt, reason};
 ghost use Rattle.allotment.specs.Answered.{Answered};
 ghost use Rattle.columns.specs.View.{runs, placesOf, viewed, Viewed};
+ghost use Rattle.cutback.specs.Lines.{codesIn};
+ghost use Rattle.cutback.specs.Judge.{judge, answerOf};
 
 // A book and a lent buffer: the answer, and the report at the front of the buffer where the book is accepted.
 #[no_mangle]
@@ -57,4 +59,20 @@ pub extern "C" fn frundavel_reason(number: u64, place: u64, book: &[u8], words: 
     let mut text = [0u8; reasons::WORDS_ROOM];
     let end = reasons::put_reason(&mut text, 0, number, reasons::field_at(book, place));
     hand_over(&text[..end], words)
+}
+
+// A customer's type, the metal, the grams in one lot, and its seats: the answer, and in the first of the lent places the lots cut at each seat.
+#[no_mangle]
+pub extern "C" fn frundavel_cutback(
+    kind: &[u8],
+    metal: &[u8],
+    grams: u64,
+    codes: &[u8],
+    sizes: &[u64],
+    lots: &[u64],
+    cuts: &mut [u64],
+) -> Answer
+    ensures { λ r. ⌜ Answered (answerOf (length (now (cuts .entry))) (judge (now (kind .entry)) (now (metal .entry)) grams (codesIn (now (sizes .entry)) (now (codes .entry))) (now (lots .entry)))) r (now (cuts .entry)) (now (cuts .exit)) ⌝ }
+{
+    cutback::cut(kind, metal, grams, codes, sizes, lots, cuts)
 }

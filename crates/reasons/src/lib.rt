@@ -35,7 +35,7 @@ fn lines_left(left: usize, byte: u8) -> usize
 }
 
 // Where the text goes on behind k lines.
-fn behind_lines(text: &[u8], k: usize) -> usize
+pub fn behind_lines(text: &[u8], k: usize) -> usize
     ensures { λ r. ⌜ (r ≤ length (now (text .entry))) × (drop r (now (text .entry)) ≡ behindLines k (now (text .entry))) ⌝ }
 {
     let mut left = k;
@@ -51,7 +51,7 @@ fn behind_lines(text: &[u8], k: usize) -> usize
 }
 
 // Where the line ends that begins at `from`.
-fn line_end(text: &[u8], from: usize) -> usize
+pub fn line_end(text: &[u8], from: usize) -> usize
     requires { ⌜ from ≤ length (now text) ⌝ }
     ensures { λ r. ⌜ r ≡ from + length (firstLine (drop from (now (text .entry)))) ⌝ }
 {
@@ -65,7 +65,7 @@ fn line_end(text: &[u8], from: usize) -> usize
     i
 }
 
-fn put_line(out: &mut [u8], at: usize, text: &[u8], k: usize) -> usize
+pub fn put_line(out: &mut [u8], at: usize, text: &[u8], k: usize) -> usize
     requires { ⌜ Room at (lineOf k (now text)) (now out) ⌝ }
     ensures { λ r. ⌜ Wrote at (lineOf k (now (text .entry))) (now (out .entry)) (now (out .exit)) r ⌝ }
 {

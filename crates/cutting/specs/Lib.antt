@@ -1,0 +1,2 @@
+-- What the contracts of cutting cite: what the program reads and says.
+pub mod Told
