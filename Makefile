@@ -13,7 +13,7 @@
 
 PREFIX = /usr/local
 DESTDIR =
-VERSION = 0.7.0
+VERSION = 0.8.0
 RT = rt
 RUN = .ci/x86-64
 INSTALL = install
@@ -21,6 +21,7 @@ INSTALL = install
 MACHINE = $(shell uname -m)
 
 program = target/bin/allot
+cutback = target/bin/cutback
 archive = target/staticlib/libfrundavel.a
 # the call worked in rows, for the comparison of both layouts
 rows = target/staticlib/librows.a
@@ -62,12 +63,12 @@ plain-folders = $(if $(odd-folder),$(error make $@: $(odd-folder) has one of the
 .NOTPARALLEL:
 .DELETE_ON_ERROR:
 # kept, as .PRECIOUS would keep it, but taken away where it is half written
-.SECONDARY: target/staticlib/liballot.a
+.SECONDARY: target/staticlib/liballot.a target/staticlib/libcutting.a
 
 sample: $(program)
 	$(RUN) $(program) examples/listing.book
 
-all: $(program) $(archive) $(shared)
+all: $(program) $(cutback) $(archive) $(shared)
 
 help:
 	@sed -n 's/^# \(make\)/\1/p' Makefile
@@ -92,6 +93,10 @@ target/staticlib/lib%.a: $(sources) program/archive
 	$(need-rt)
 	program/archive $*
 
+$(cutback): target/staticlib/libcutting.a program/main.c program/link program/kit
+	$(need-rt)
+	program/link cutting cutback
+
 target/bin/%: target/staticlib/lib%.a program/main.c program/link program/kit
 	$(need-rt)
 	program/link $*
@@ -110,6 +115,7 @@ install:
 	$(INSTALL) -d "$(DESTDIR)$(bindir)" "$(DESTDIR)$(includedir)" "$(DESTDIR)$(pkgconfigdir)" "$(DESTDIR)$(mandir)/man1" \
 		"$(DESTDIR)$(mandir)/man3"
 	$(INSTALL) -m 755 $(program) "$(DESTDIR)$(bindir)/allot"
+	$(INSTALL) -m 755 $(cutback) "$(DESTDIR)$(bindir)/cutback"
 	$(INSTALL) -m 755 examples/show-book "$(DESTDIR)$(bindir)/show-book"
 	$(INSTALL) -m 644 include/frundavel.h "$(DESTDIR)$(includedir)/frundavel.h"
 	$(INSTALL) -m 644 $(archive) "$(DESTDIR)$(libdir)/libfrundavel.a"
@@ -117,6 +123,7 @@ install:
 	ln -sf libfrundavel.so.$(VERSION) "$(DESTDIR)$(libdir)/libfrundavel.so.0"
 	ln -sf libfrundavel.so.0 "$(DESTDIR)$(libdir)/libfrundavel.so"
 	$(INSTALL) -m 644 docs/allot.1 "$(DESTDIR)$(mandir)/man1/allot.1"
+	$(INSTALL) -m 644 docs/cutback.1 "$(DESTDIR)$(mandir)/man1/cutback.1"
 	$(INSTALL) -m 644 docs/frundavel.3 "$(DESTDIR)$(mandir)/man3/frundavel.3"
 	printf '%s\n' 'prefix=$(PREFIX)' 'includedir=$(call below,$(includedir))' 'libdir=$(call below,$(libdir))' '' 'Name: frundavel' \
 		'Description: Forced offsetting allotment' 'Version: $(VERSION)' 'Cflags: -I"$${includedir}"' \
@@ -126,6 +133,7 @@ install:
 # The folders stay: others may have files there.
 uninstall:
 	$(plain-folders)
+	rm -f "$(DESTDIR)$(bindir)/cutback" "$(DESTDIR)$(mandir)/man1/cutback.1"
 	rm -f "$(DESTDIR)$(bindir)/allot" "$(DESTDIR)$(bindir)/show-book" "$(DESTDIR)$(includedir)/frundavel.h"
 	rm -f "$(DESTDIR)$(libdir)/libfrundavel.a" "$(DESTDIR)$(libdir)/libfrundavel.so" "$(DESTDIR)$(libdir)/libfrundavel.so.0" \
 		"$(DESTDIR)$(libdir)/libfrundavel.so.$(VERSION)" "$(DESTDIR)$(pkgconfigdir)/frundavel.pc"

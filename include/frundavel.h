@@ -2,7 +2,8 @@
  * frundavel.h - the forced offsetting allotment, for C99 and C++.
  *
  * frundavel_allot: a book and a lent buffer in; a number, a place and a length out. frundavel_columns: the
- * same for a viewer that reads column by column. frundavel_reason: the words for a refusal. The rules, with worked examples, are in
+ * same for a viewer that reads column by column. frundavel_reason: the words for a refusal. frundavel_cutback: a customer's seats over the
+ * position limit. The rules, with worked examples, are in
  * docs/RULES.md of the source tree. Every byte and number that a call writes, and every answer that it gives, is proved to be what the
  * definitions (crates/rules/specs, crates/columns/specs) say; docs/ASSUMPTIONS.md says what that rests on.
  *
@@ -20,9 +21,9 @@ extern "C" {
 #endif
 
 /* The version. CHANGELOG.md of the source tree says what changed with each. */
-#define FRUNDAVEL_VERSION "0.7.0"
+#define FRUNDAVEL_VERSION "0.8.0"
 #define FRUNDAVEL_VERSION_MAJOR 0
-#define FRUNDAVEL_VERSION_MINOR 7
+#define FRUNDAVEL_VERSION_MINOR 8
 #define FRUNDAVEL_VERSION_PATCH 0
 
 /* A book has at most so many bytes; a longer one is refused with number 1. Reading one byte more than this is enough to see it. */
@@ -160,6 +161,47 @@ frundavel_answer frundavel_reason(uint64_t number, uint64_t place, const uint8_t
 frundavel_answer frundavel_columns(const uint8_t *book, size_t size, uint8_t *standings, size_t standings_places, uint64_t *offered,
                                    size_t offered_places, uint64_t *pending, size_t pending_places, uint64_t *offsets,
                                    size_t offsets_places);
+
+/* The numbers of frundavel_cutback, besides 0 and 11. The place is 0. */
+enum frundavel_cutback_number {
+    FRUNDAVEL_UNKNOWN = 40,
+    FRUNDAVEL_BAD_GRAMS = 41,
+    FRUNDAVEL_BAD_CODE = 42,
+    FRUNDAVEL_BAD_COUNT = 43,
+    FRUNDAVEL_BAD_LOTS = 44
+};
+
+/* A customer has at most so many seats: so many places are enough for every call. */
+#define FRUNDAVEL_MOST_SEATS 4
+
+/*
+ * The lots cut at each seat of a customer over the position limit (Articles 34 and 52 (2) 3; docs/POSITION-LIMIT.md).
+ *
+ *   kind    `corporate` or `individual`            metal   `gold` or `silver`
+ *   grams   in one lot                             codes   the seat codes, one behind the other, without anything between
+ *   sizes   the bytes of each code, in order       lots    held at each seat, in the same order
+ *
+ * - Accepted: number 0, place 0, and length is the number of seats. The first so many places at `cuts` have the lots cut, in the order
+ *   given; the others are unaltered. At or under the limit every cut is 0.
+ * - Refused, length 0 and no place altered, by the first of these over the whole call:
+ *
+ *     number  given exactly when                                                                          place
+ *         40  the type or the metal is unknown                                                            0
+ *         41  the grams are 0 or above 1,000,000                                                          0
+ *         42  a seat's code is malformed (1 to 12 bytes, each 0-9 or A-Z) or another seat has it; a code  0
+ *             runs past the end of `codes`; there are more lots than sizes
+ *         43  there is no seat, or there are more than four                                               0
+ *         44  a seat has more than 1,000,000 lots; there are more sizes than lots                         0
+ *         11  there are fewer places than seats                                                           the number of places needed
+ *
+ * - Any bytes and any numbers may be given. Bytes behind the last code are not looked at. frundavel_reason has no words for 40 to 44.
+ * - The time grows with the square of the number of seats given: each code is held against those behind it.
+ * - `cuts` must overlap no other part. Of memory and threads the same holds as above. A thread that does nothing but this call took 4,728
+ *   bytes of stack, 4,464 of them its own (measured once on x86-64; no test holds it).
+ */
+frundavel_answer frundavel_cutback(const uint8_t *kind, size_t kind_size, const uint8_t *metal, size_t metal_size, uint64_t grams,
+                                   const uint8_t *codes, size_t codes_size, const uint64_t *sizes, size_t sizes_count,
+                                   const uint64_t *lots, size_t lots_count, uint64_t *cuts, size_t places);
 
 #ifdef __cplusplus
 }

@@ -16,6 +16,7 @@ pub mod cascade;
 pub mod code;
 pub mod columns;
 pub mod cursor;
+pub mod cutback;
 pub mod division;
 pub mod figures;
 pub mod gain;

@@ -6,12 +6,13 @@ use std::os::fd::AsFd;
 use std::path::Path;
 use std::process::ExitCode;
 
-use second::{listing, make};
+use second::{cutback, listing, make};
 
 const USAGE: &str = "\
 usage: second                          print the listing of the book on standard input
        second make SEED COUNT FOLDER   write COUNT generated books and their listings
        second show SEED INDEX          write one generated book to standard output
+       second cutback                  print the cuts of the seats on standard input
 ";
 
 /// Document 01: "reads a book from standard input, at most 60,001 bytes". One byte
@@ -38,6 +39,7 @@ fn main() -> ExitCode {
 fn run(words: &[&str]) -> Option<io::Result<()>> {
     match *words {
         [] => Some(list()),
+        ["cutback"] => Some(list_cuts()),
         ["make", seed, count, folder] => {
             let (seed, count) = (seed.parse().ok()?, count.parse().ok()?);
             Some(make_folder(seed, count, Path::new(folder)))
@@ -56,6 +58,14 @@ fn list() -> io::Result<()> {
     let mut book = Vec::new();
     input.take(MOST_READ).read_to_end(&mut book)?;
     print(&listing(&book))
+}
+
+/// The same of seats over the position limit (request [13]).
+fn list_cuts() -> io::Result<()> {
+    let input = File::from(io::stdin().as_fd().try_clone_to_owned()?);
+    let mut lines = Vec::new();
+    input.take(MOST_READ).read_to_end(&mut lines)?;
+    print(&cutback::listing(&lines))
 }
 
 fn show(seed: u64, index: u64) -> io::Result<()> {

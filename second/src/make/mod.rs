@@ -19,7 +19,7 @@ mod damage_stamps;
 mod draft;
 mod edges;
 mod groups;
-mod rng;
+pub mod rng;
 mod seats;
 mod sizes;
 mod stamps;
