@@ -9,6 +9,7 @@ ghost use Rattle.allotment.specs.Answered.{Answered};
 ghost use Rattle.columns.specs.View.{runs, placesOf, viewed, Viewed};
 ghost use Rattle.cutback.specs.Lines.{codesIn};
 ghost use Rattle.cutback.specs.Judge.{judge, answerOf};
+ghost use Rattle.watch.specs.Moves.{moves};
 
 // A book and a lent buffer: the answer, and the report at the front of the buffer where the book is accepted.
 #[no_mangle]
@@ -75,4 +76,17 @@ pub extern "C" fn frundavel_cutback(
     ensures { λ r. ⌜ Answered (answerOf (length (now (cuts .entry))) (judge (now (kind .entry)) (now (metal .entry)) grams (codesIn (now (sizes .entry)) (now (codes .entry))) (now (lots .entry)))) r (now (cuts .entry)) (now (cuts .exit)) ⌝ }
 {
     cutback::cut(kind, metal, grams, codes, sizes, lots, cuts)
+}
+
+// A list of days and a lent run: the answer, and in the first places of the run a byte for each day where the list is accepted.
+#[no_mangle]
+pub extern "C" fn frundavel_moves(list: &[u8], spans: &mut [u8]) -> Answer
+    ensures { λ r. ⌜ Answered (moves (now (list .entry)) (length (now (spans .entry)))) r (now (spans .entry)) (now (spans .exit)) ⌝ }
+{
+    let found = watch::moves(list, spans);
+    Answer {
+        number: found.number,
+        place: found.place,
+        length: found.length,
+    }
 }

@@ -33,6 +33,9 @@ allot κs a = tt
 pub frundavel-allot : AsksNothing frundavel.frundavel_allot.ended frundavel.frundavel_allot.Reads.Asked
 frundavel-allot κs a = tt
 
+pub frundavel-moves : AsksNothing frundavel.frundavel_moves.ended frundavel.frundavel_moves.Reads.Asked
+frundavel-moves κs a = tt
+
 pub frundavel-reason : AsksNothing frundavel.frundavel_reason.ended frundavel.frundavel_reason.Reads.Asked
 frundavel-reason κs a = tt
 

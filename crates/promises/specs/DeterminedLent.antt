@@ -206,6 +206,9 @@ allot κs a r q s t e f = answered e f
 pub frundavel-allot : Determined frundavel.frundavel_allot.ended frundavel.frundavel_allot.Reads.Learnt
 frundavel-allot κs a r q s t e f = answered e f
 
+pub frundavel-moves : Determined frundavel.frundavel_moves.ended frundavel.frundavel_moves.Reads.Learnt
+frundavel-moves κs a r q s t e f = answered e f
+
 pub frundavel-reason : Determined frundavel.frundavel_reason.ended frundavel.frundavel_reason.Reads.Learnt
 frundavel-reason κs a r q s t e f = (
   answered e f .0,

@@ -30,7 +30,7 @@ pub enum Input {
 
 // One read into the rest of the buffer: -1, or how many bytes came. A read that a signal interrupts is tried again; the turns are
 // counted down from a number that no run uses up.
-fn read_more(fd: i32, buffer: &mut [u8], done: usize) -> isize
+pub fn read_more(fd: i32, buffer: &mut [u8], done: usize) -> isize
     requires { ⌜ done ≤ length (now buffer) ⌝ }
 {
     let mut turns = u64::MAX;
@@ -48,7 +48,7 @@ fn read_more(fd: i32, buffer: &mut [u8], done: usize) -> isize
 }
 
 // Reads until the input ends or the buffer is full: a read may bring less than was asked for.
-fn read_whole(fd: i32, buffer: &mut [u8]) -> Got
+pub fn read_whole(fd: i32, buffer: &mut [u8]) -> Got
     ensures { λ r. ⌜ Fitting r (length (now (buffer .entry))) ⌝ }
 {
     let mut done: usize = 0;
@@ -99,7 +99,7 @@ fn write_whole(fd: i32, bytes: &[u8]) -> bool {
 }
 
 // Shows a name on a terminal as it is, but for bytes that would move its cursor.
-fn make_visible(name: &mut [u8])
+pub fn make_visible(name: &mut [u8])
     ensures { λ r. ⌜ now (name .exit) ≡ filled (visibleAt (now (name .entry))) (length (now (name .entry))) (now (name .entry)) ⌝ }
 {
     let mut i: usize = 0;
@@ -122,7 +122,7 @@ fn visible(byte: u8) -> u8
 }
 
 // Says what failed, and why in the words of the C library.
-fn failed(program: &[u8], what: &[u8]) -> u32
+pub fn failed(program: &[u8], what: &[u8]) -> u32
     ensures { λ r. ⌜ r ≡ failed ⌝ }
 {
     write_whole(libc::STDERR_FILENO, program);
@@ -227,7 +227,7 @@ fn take(seen: Seen, i: usize) -> Seen {
 }
 
 // What all words ask for; the first of them is the program's name.
-fn ask(count: usize) -> Asked {
+pub fn ask(count: usize) -> Asked {
     let mut seen = Seen {
         asked: Asked::Nothing,
         ended: false,
@@ -239,7 +239,13 @@ fn ask(count: usize) -> Asked {
 }
 
 // What a program begins with, by what its words ask for.
-fn begin_as(asked: Asked, program: &[u8], help: &[u8], version: &[u8], buffer: &mut [u8]) -> Input
+pub fn begin_as(
+    asked: Asked,
+    program: &[u8],
+    help: &[u8],
+    version: &[u8],
+    buffer: &mut [u8],
+) -> Input
     ensures { λ r. ⌜ Begun asked r (length (now (buffer .entry))) ⌝ }
 {
     match asked {

@@ -1,0 +1,3 @@
+-- Cases of lists: what they are made of, and that they hold.
+pub mod Case
+pub mod Cases

@@ -1,0 +1,1 @@
+// Cases of lists of days, computed, in specs/; no code.

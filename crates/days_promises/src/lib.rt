@@ -1,0 +1,1 @@
+// What is promised of lists of days, as theorems, in specs/; no code.
