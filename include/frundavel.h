@@ -21,9 +21,9 @@ extern "C" {
 #endif
 
 /* The version. CHANGELOG.md of the source tree says what changed with each. */
-#define FRUNDAVEL_VERSION "0.8.0"
+#define FRUNDAVEL_VERSION "0.9.0"
 #define FRUNDAVEL_VERSION_MAJOR 0
-#define FRUNDAVEL_VERSION_MINOR 8
+#define FRUNDAVEL_VERSION_MINOR 9
 #define FRUNDAVEL_VERSION_PATCH 0
 
 /* A book has at most so many bytes; a longer one is refused with number 1. Reading one byte more than this is enough to see it. */
@@ -52,7 +52,11 @@ extern "C" {
 /* A book has at most so many customers: runs of so many places are enough for every book. */
 #define FRUNDAVEL_MOST_CUSTOMERS 256
 
-/* The numbers of an answer. The table below says when each is given. */
+/* A list of days has at most so many: a run of so many places is enough for every list. */
+#define FRUNDAVEL_MOST_DAYS 2000
+
+/* The numbers of an answer. The table below says when each is given; from 30 on they are those of a list of days (frundavel_moves; 32 is of a
+ * form of lists that no call reads yet). */
 enum frundavel_number {
     FRUNDAVEL_ACCEPTED = 0,
     FRUNDAVEL_TOO_LONG = 1,
@@ -67,7 +71,11 @@ enum frundavel_number {
     FRUNDAVEL_TOO_MANY = 10,
     FRUNDAVEL_NO_ROOM = 11,
     FRUNDAVEL_ASTRAY = 12,
-    FRUNDAVEL_SEAT_TWICE = 13
+    FRUNDAVEL_SEAT_TWICE = 13,
+    FRUNDAVEL_TOO_MANY_DAYS = 30,
+    FRUNDAVEL_ZERO = 31,
+    FRUNDAVEL_OTHER_MARK = 32,
+    FRUNDAVEL_NO_DAY = 33
 };
 
 /*
@@ -202,6 +210,20 @@ enum frundavel_cutback_number {
 frundavel_answer frundavel_cutback(const uint8_t *kind, size_t kind_size, const uint8_t *metal, size_t metal_size, uint64_t grams,
                                    const uint8_t *codes, size_t codes_size, const uint64_t *sizes, size_t sizes_count,
                                    const uint64_t *lots, size_t lots_count, uint64_t *cuts, size_t places);
+
+/*
+ * Judges a list of days of `size` bytes and, where it is accepted, puts one byte for each day into the lent run, with a bit for each span that is met
+ * on it: 1, 2, 4 where the price has moved, and 8, 16, 32 where open interest has grown, over 3, 4 and 5 days (Articles 12 and 13; docs/MOVES.md has
+ * the form of a list and the figures).
+ *
+ * - Accepted: number 0, place 0, and length is the number of days. The rest of the run is unaltered.
+ * - 30 at 0: more than 2,001 line feeds. Then the first bad line decides, its place the day's number, 0 for the first line: 33, not of its form; then
+ *   31, a zero price or zero open interest. 11, last of all: the run has fewer places than there are days; place is the number of places needed.
+ * - Refused: length 0, and no place of the run is altered.
+ * - There is no limit in bytes. frundavel_reason has no words for these numbers.
+ * - What is said above of pointers, memory and threads holds here too.
+ */
+frundavel_answer frundavel_moves(const uint8_t *list, size_t size, uint8_t *spans, size_t places);
 
 #ifdef __cplusplus
 }

@@ -17,6 +17,7 @@ pub mod code;
 pub mod columns;
 pub mod cursor;
 pub mod cutback;
+pub mod days;
 pub mod division;
 pub mod figures;
 pub mod gain;
