@@ -231,7 +231,7 @@ fn read_customers(
     }
 }
 
-// All customers of a book, into the columns, or its refusal with numbers 1 to 10 and 12.
+// All customers of a book, into the columns, or its refusal with numbers 1 to 10, 12 and 13.
 pub fn read_roll(
     book: &[u8],
     keys: &mut [u64],

@@ -1,5 +1,5 @@
 -- docs/RULES.md, section 6.
--- Document 01, "Refusal numbers", and request [4]: a name for each number of the table, and for 0. Brought in as `refusal`, so that a definition reads
+-- Document 01, "Refusal numbers", and requests [4] and [5]: a name for each number of the table, and for 0. Brought in as `refusal`, so that a definition reads
 -- `refusal.overdrawn`.
 -- Assumes nothing.
 use Prim.Native.Nat.{ℕ}
@@ -55,6 +55,6 @@ noRoom = 11
 abbrev pub astray : ℕ
 astray = 12
 
--- "a seat code twice in one customer"
+-- Request [5]: "a seat code twice in one customer"
 abbrev pub seatTwice : ℕ
 seatTwice = 13

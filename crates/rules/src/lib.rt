@@ -1,4 +1,4 @@
-// The types of the paper: what document 01 and requests [2] and [3] name, and the limits; and "the smaller of", which it says of lots twice. The rules
+// The types of the paper: what document 01 and requests [2] to [5] name, and the limits; and "the smaller of", which it says of lots twice. The rules
 // themselves are definitions, in specs/.
 pub mod refusal;
 pub mod tag;
