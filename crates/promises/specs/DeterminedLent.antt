@@ -2,7 +2,7 @@
 -- Assumes nothing.
 use Prim.Native.Nat.{ℕ}
 use mathlib.Core.Path.{_≡_, refl, sym, ap, _∙_}
-use mathlib.Core.List.{List, []}
+use mathlib.Core.List.{List}
 use denote.Ref.{now}
 use Rattle.rules.specs.Book.{Verdict, Refused, Accepted, judge}
 use Rattle.writing.specs.Written.{Wrote}
