@@ -26,7 +26,7 @@ use Rattle.rules.specs.Seats.{seatLots}
 use Rattle.rules.specs.Report.{field, digits, reportedSeat, reported, report, listing}
 use Rattle.rules.specs.Answer.{answer}
 use Rattle.cases.specs.Case.{Holds, so}
-use Rattle.cases.specs.Tables.{termsWith, gold, bought, sold, customer, book, entry}
+use Rattle.cases.specs.Tables.{termsWith, gold, bought, sold, boughtAs, customer, book, entry}
 use Rattle.cases.specs.Cases.{theListing}
 use Rattle.writing.specs.Written.{written-front}
 use Rattle.allotment.specs.declared.Listing.{Listing}
@@ -141,13 +141,16 @@ wrong =
     ∷ far "12 before 5: the price of a trade of 0 lots" (one gold "40000.00 0")
     ∷ far "12 before 5: a price without its decimals" (one gold "4000000 1")
     ∷ far "12 before 4: a comma in the lots" (one gold "40000.00 1,0")
+    ∷ takes "of somebody short, trades that lack a lot are enough" (book gold (customer "A" "0" "2" "0" (sold "400.00 1" ∷ []) ∷ []))
+    ∷ takes "bought trades are taken for trades in order"
+    (book gold (customer "A" "1" "0" "1" (boughtAs "450.00 1 20250115 1000" ∷ boughtAs "400.00 1 20250114 1000" ∷ []) ∷ []))
     ∷ []
 
 pub contradicted : Contradicted wrong
 unfolding answer writtenOf figureOf openingOf stampOf isCode fieldsOf within step judge gainFrom totalGain standing leftOver rank shareOf share lineOf quantity after cascade outcome digits seatLots reportedSeat reported report
 contradicted = none-given wrong (
     so & so & so & so & so & so & so & so & so & so & so & so & so & so & so & so & so & so & so & so
-    & so & so & so & so & so & so & so & so & so & so & so & so & so & so & done)
+    & so & so & so & so & so & so & so & so & so & so & so & so & so & so & so & so & done)
 
 -- What the program's `list` leaves at the front of the buffer, as many bytes as it says, is the listing: a refused book is not listed as one
 -- without customers.
