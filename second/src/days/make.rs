@@ -10,10 +10,22 @@ pub enum Kind {
 }
 
 /// xorshift64*, over a seed that is mixed first.
-struct Dice(u64);
+pub struct Dice(u64);
 
 impl Dice {
-    fn roll(&mut self, sides: u64) -> u64 {
+    /// Those of a seed and an index.
+    pub fn new(seed: u64, index: u64) -> Dice {
+        let mixed = (seed.wrapping_mul(0x9e37_79b9_7f4a_7c15) ^ index)
+            .wrapping_mul(0xbf58_476d_1ce4_e5b9)
+            | 1;
+        let mut dice = Dice(mixed ^ (mixed >> 31));
+        for _ in 0..4 {
+            dice.roll(2);
+        }
+        dice
+    }
+
+    pub fn roll(&mut self, sides: u64) -> u64 {
         self.0 ^= self.0 >> 12;
         self.0 ^= self.0 << 25;
         self.0 ^= self.0 >> 27;
@@ -23,12 +35,7 @@ impl Dice {
 
 /// The list of a seed and an index, and what it is meant to try.
 pub fn list(seed: u64, index: u64) -> (Vec<u8>, Kind) {
-    let mixed =
-        (seed.wrapping_mul(0x9e37_79b9_7f4a_7c15) ^ index).wrapping_mul(0xbf58_476d_1ce4_e5b9) | 1;
-    let mut dice = Dice(mixed ^ (mixed >> 31));
-    for _ in 0..4 {
-        dice.roll(2);
-    }
+    let mut dice = Dice::new(seed, index);
     match dice.roll(4) {
         0 => (written(&mut dice, false), Kind::Whole),
         1 | 2 => (written(&mut dice, true), Kind::Edge),
@@ -43,30 +50,46 @@ pub fn list(seed: u64, index: u64) -> (Vec<u8>, Kind) {
     }
 }
 
-fn written(dice: &mut Dice, edge: bool) -> Vec<u8> {
+/// How many days: most lists are short, and some are as long as a list can be.
+pub fn count(dice: &mut Dice) -> usize {
     let count = match dice.roll(40) {
         0 => 2_000,
         1 => 1_999,
         2..=5 => dice.roll(300),
         _ => dice.roll(14),
     };
+    count as usize
+}
+
+/// A day's price and open interest as both forms of a list have them.
+pub fn figures((price, interest): (u64, u64)) -> String {
+    format!("{}.{:02} {interest}", price / 100, price % 100)
+}
+
+/// Within the range of prices and of open interest.
+pub fn within((price, interest): (u64, u64)) -> (u64, u64) {
+    (price.clamp(1, 9_999_999), interest.clamp(1, 9_999_999_999))
+}
+
+fn written(dice: &mut Dice, edge: bool) -> Vec<u8> {
+    let count = count(dice);
     let silver = dice.roll(2) == 0;
     let mut days: Vec<(u64, u64)> = Vec::new();
-    for at in 0..count as usize {
+    for at in 0..count {
         let day = if edge && at > 2 && dice.roll(3) > 0 {
             beside(dice, &days, silver)
         } else {
             drift(dice, days.last().copied())
         };
-        days.push((day.0.clamp(1, 9_999_999), day.1.clamp(1, 9_999_999_999)));
+        days.push(within(day));
     }
     let mut list = if silver {
         b"silver\n".to_vec()
     } else {
         b"gold\n".to_vec()
     };
-    for (price, interest) in days {
-        list.extend(format!("{}.{:02} {interest}\n", price / 100, price % 100).bytes());
+    for day in days {
+        list.extend(format!("{}\n", figures(day)).bytes());
     }
     list
 }
@@ -91,7 +114,8 @@ fn beside(dice: &mut Dice, days: &[(u64, u64)], silver: bool) -> (u64, u64) {
     (near(dice, price), near(dice, interest))
 }
 
-fn drift(dice: &mut Dice, last: Option<(u64, u64)>) -> (u64, u64) {
+/// A day that follows another, or the first.
+pub fn drift(dice: &mut Dice, last: Option<(u64, u64)>) -> (u64, u64) {
     let Some((price, interest)) = last else {
         let price =
             [40_000, 560_000, 1, 9_999_999, 100 * (1 + dice.roll(9_000))][dice.roll(5) as usize];
