@@ -5,13 +5,15 @@
 //! 3. [`statement`] takes a report apart and has the five sentences that hold of it, [`rearrange`] tries demand 3, for
 //!    which [`trades`] has the stamps of trades;
 //! 4. [`run`] does so for many books; [`shrink`] and [`plain`] make a book with a difference small and [`text`] prints it;
-//! 5. [`stored`] holds the calls to books that somebody else has read, and to the reports that are stored beside them.
+//! 5. [`lists`] holds calls and programs on lists of days to it;
+//! 6. [`stored`] holds the calls to books that somebody else has read, and to the reports that are stored beside them.
 
 pub mod columns;
 pub mod compare;
 pub mod draw;
 pub mod fields;
 pub mod guarded;
+pub mod lists;
 pub mod plain;
 #[cfg_attr(not(linked), path = "elsewhere.rs")]
 pub mod product;

@@ -124,7 +124,7 @@ fn every_byte_as_the_mark() {
 #[test]
 fn generated_lists_reach_everything() {
     let (mut numbers, mut outcomes) = ([0; 34], BTreeMap::new());
-    for index in 0..3_000 {
+    for index in 0..1_500 {
         let (bytes, kind) = longer(7, index);
         match ladder(&bytes) {
             Ok(steps) => {
@@ -144,7 +144,7 @@ fn generated_lists_reach_everything() {
         }
     }
     assert!(
-        [30, 31, 32, 33].iter().all(|&number| numbers[number] > 10),
+        [30, 31, 32, 33].iter().all(|&number| numbers[number] > 5),
         "{numbers:?}"
     );
     assert_eq!(outcomes.len(), 7 + 19, "{outcomes:?}");
@@ -153,34 +153,148 @@ fn generated_lists_reach_everything() {
 
 /// The steps of an accepted list by what the day before came to.
 fn walked(list: &[u8]) -> Vec<Step> {
+    walked_wrongly(list, Wrong::Nothing)
+}
+
+/// Easy ways to get it wrong.
+#[derive(Clone, Copy, Debug, PartialEq)]
+enum Wrong {
+    Nothing,
+    ReverseIsChecked,
+    ThreePointsAreTooFew,
+    SixPointsAreTooMany,
+    RunGoesOverAnUnlockedDay,
+    ReverseCountsOn,
+    ReverseOfAReverseIsFirst,
+    FirstDayIsNoLock,
+    RaiseOfLockedDaysAlone,
+    NextLimitIsLookedAtFirst,
+    LimitIsLookedAtBeforeTheDay,
+    LastDayIsHeldAgainstItself,
+}
+
+/// The same with one thing wrong.
+fn walked_wrongly(list: &[u8], wrong: Wrong) -> Vec<Step> {
     let text = std::str::from_utf8(list).expect("an accepted list is ASCII");
     let rows: Vec<Vec<&str>> = text
         .lines()
         .skip(1)
         .map(|line| line.split(' ').collect())
         .collect();
-    let rate = |at: usize| rows[at][3].replace('.', "").parse::<i64>().ok();
-    let (mut before, mut running) = ("-", 0);
+    let (mut before, mut running, mut reversed) = ("-", 0, false);
     let mut steps = Vec::new();
     for (at, row) in rows.iter().enumerate() {
-        running = if row[2] == before { running + 1 } else { 1 };
-        steps.push(match (before, row[2]) {
+        let mark = row[2];
+        let first = || Step::First(raised(&rows, at, wrong));
+        let counted = mark == before || wrong == Wrong::ReverseCountsOn && before != "-";
+        running = if counted { running + 1 } else { 1 };
+        let step = match (before, mark) {
             (_, "-") => Step::None,
-            ("-", _) if at + 1 == rows.len() => Step::First(Raise::NoDay),
-            ("-", _) => Step::First(match (rate(at), rate(at + 1)) {
-                (None, _) => Raise::NoLimit,
-                (_, None) => Raise::NoNextLimit,
-                (Some(now), Some(next)) if next >= now + 3_000 && next <= now + 6_000 => {
-                    Raise::Holds
-                }
-                _ => Raise::Fails,
-            }),
+            ("-", _) if at == 0 && wrong == Wrong::FirstDayIsNoLock => Step::None,
+            ("-", _) => first(),
             (before, now) if before == now => Step::Same(running),
+            _ if wrong == Wrong::ReverseIsChecked => first(),
+            _ if wrong == Wrong::ReverseOfAReverseIsFirst && reversed => first(),
             _ => Step::Reverse,
-        });
-        before = row[2];
+        };
+        reversed = step == Step::Reverse;
+        if mark != "-" || wrong != Wrong::RunGoesOverAnUnlockedDay {
+            before = mark;
+        }
+        steps.push(step);
     }
     steps
+}
+
+fn raised(rows: &[Vec<&str>], at: usize, wrong: Wrong) -> Raise {
+    let rate = |at: usize| rows[at][3].replace('.', "").parse::<i64>().ok();
+    if wrong == Wrong::LimitIsLookedAtBeforeTheDay && rate(at).is_none() {
+        return Raise::NoLimit;
+    }
+    if at + 1 == rows.len() {
+        return match wrong {
+            Wrong::LastDayIsHeldAgainstItself => Raise::Fails,
+            _ => Raise::NoDay,
+        };
+    }
+    if wrong == Wrong::NextLimitIsLookedAtFirst && rate(at + 1).is_none() {
+        return Raise::NoNextLimit;
+    }
+    let (Some(now), Some(next)) = (rate(at), rate(at + 1)) else {
+        return match rate(at) {
+            None => Raise::NoLimit,
+            Some(_) => Raise::NoNextLimit,
+        };
+    };
+    let raise = next - now;
+    let good = match wrong {
+        Wrong::ThreePointsAreTooFew => 3_000 < raise && raise <= 6_000,
+        Wrong::SixPointsAreTooMany => 3_000 <= raise && raise < 6_000,
+        Wrong::RaiseOfLockedDaysAlone if rows[at + 1][2] == "-" => false,
+        _ => 3_000 <= raise && raise <= 6_000,
+    };
+    if good {
+        Raise::Holds
+    } else {
+        Raise::Fails
+    }
+}
+
+/// Each wrong way is seen in generated lists, and more than five times in a thousand.
+#[test]
+fn wrong_ways_are_seen() {
+    let accepted: Vec<(Vec<u8>, Vec<Step>)> = (0..1_000)
+        .map(|index| longer(11, index).0)
+        .filter_map(|list| ladder(&list).ok().map(|steps| (list, steps)))
+        .collect();
+    for wrong in [
+        Wrong::ReverseIsChecked,
+        Wrong::ThreePointsAreTooFew,
+        Wrong::SixPointsAreTooMany,
+        Wrong::RunGoesOverAnUnlockedDay,
+        Wrong::ReverseCountsOn,
+        Wrong::ReverseOfAReverseIsFirst,
+        Wrong::FirstDayIsNoLock,
+        Wrong::RaiseOfLockedDaysAlone,
+        Wrong::NextLimitIsLookedAtFirst,
+        Wrong::LimitIsLookedAtBeforeTheDay,
+        Wrong::LastDayIsHeldAgainstItself,
+    ] {
+        let seen = accepted
+            .iter()
+            .filter(|(list, steps)| walked_wrongly(list, wrong) != *steps)
+            .count();
+        assert!(seen > 5, "{wrong:?}: {seen} of {}", accepted.len());
+    }
+}
+
+/// 32 before 31, and either before 33, are seen too: a line that has two of them is refused in generated lists.
+#[test]
+fn lines_with_two_reasons_are_seen() {
+    let (mut zero_and_letter, mut letter_and_form, mut zero_and_form) = (0, 0, 0);
+    for index in 0..3_000 {
+        let (list, _) = longer(11, index);
+        let Err((number, place)) = ladder(&list) else {
+            continue;
+        };
+        let line = list.split(|&byte| byte == b'\n').nth(place as usize);
+        let words: Vec<&[u8]> = line
+            .unwrap_or_default()
+            .split(|&byte| byte == b' ')
+            .collect();
+        let letter = matches!(
+            words.get(2),
+            Some([b'A'..=b'C' | b'E'..=b'T' | b'V'..=b'Z' | b'a'..=b'z'])
+        );
+        let zero = words.first() == Some(&&b"0.00"[..]) || words.get(1) == Some(&&b"0"[..]);
+        zero_and_letter += i32::from(number == 31 && letter);
+        letter_and_form += i32::from(number == 33 && letter);
+        zero_and_form += i32::from(number == 33 && zero);
+    }
+    assert!(
+        zero_and_letter > 5 && letter_and_form > 5 && zero_and_form > 5,
+        "{zero_and_letter} {letter_and_form} {zero_and_form}"
+    );
 }
 
 #[test]

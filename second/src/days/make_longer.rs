@@ -83,11 +83,14 @@ fn beside(dice: &mut Dice, limit: u64) -> u64 {
 }
 
 /// Lines that are no day, or none with these marks: of several refusals in one line the first decides.
-const LINES: [&str; 32] = [
+const LINES: &[&str] = &[
     "0.00 5 U 5.000",
     "5.00 0 - -",
     "0.00 0 D 5.000",
     "0.00 5 X 5.000",
+    "0.00 5 a -",
+    "0.00 5 D -",
+    "5.00 0 Z 99.999",
     "5.00 0 x -",
     "0.00 5 U 5.00",
     "0.00 5 UU 5.000",
@@ -100,6 +103,8 @@ const LINES: [&str; 32] = [
     "5.00 5 a -",
     "5.00 5 z -",
     "5.00 5 X 5.00",
+    "5.00 5 x 0.000",
+    "5.00 5 Q",
     "5.00 5 @ 5.000",
     "5.00 5 [ 5.000",
     "5.00 5 ` 5.000",
@@ -122,7 +127,7 @@ const LINES: [&str; 32] = [
 /// end without its line feed, too many lines, or very many bytes.
 fn damage(dice: &mut Dice, list: &mut Vec<u8>) {
     let at = dice.roll(list.len().max(1) as u64) as usize;
-    match dice.roll(13) {
+    match dice.roll(17) {
         0 if !list.is_empty() => list[at] = dice.roll(256) as u8,
         1 if !list.is_empty() => list[at] = b"0123456789., \n-UDud+X"[dice.roll(21) as usize],
         2 => list.insert(at.min(list.len()), b"0., \n9-UDX"[dice.roll(10) as usize]),
@@ -134,17 +139,17 @@ fn damage(dice: &mut Dice, list: &mut Vec<u8>) {
             list.pop();
         }
         6 | 7 => put_mark(dice, list),
-        8 => {
+        8..=10 => {
             let line = LINES[dice.roll(LINES.len() as u64) as usize];
             list.extend(format!("{line}\n").bytes());
         }
-        9 => put_line(dice, list, at),
-        10 => list.extend(
+        11..=13 => put_line(dice, list, at),
+        14 => list.extend(
             "1.00 1 U 5.000\n"
                 .repeat(2_001 - dice.roll(3) as usize)
                 .bytes(),
         ),
-        11 => {
+        15 => {
             let front = [&b"Gold\n"[..], b" ", b"silver\n"][dice.roll(3) as usize];
             list.splice(0..0, front.iter().copied()).for_each(drop);
         }
