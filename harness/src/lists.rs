@@ -21,6 +21,8 @@ pub struct Tried<T> {
     /// None where the product cannot be linked.
     pub call: Option<Call<T>>,
     pub list: fn(u64, u64) -> (Vec<u8>, Kind),
+    /// Lists that go through the call beside the generated ones.
+    pub also: Vec<Vec<u8>>,
 }
 
 /// The number of no room in a run.
@@ -40,6 +42,13 @@ impl<T: Place + PartialEq> Tried<T> {
             return ExitCode::from(2);
         };
         let (mut passed, mut failed) = (0, 0);
+        for list in self.also.iter().filter(|_| calls > 0) {
+            let good = self.called(list);
+            if !good {
+                println!("FAILED: {:?}", String::from_utf8_lossy(list));
+            }
+            (passed, failed) = (passed + u64::from(good), failed + u64::from(!good));
+        }
         for index in 0..calls.max(runs) {
             let (bytes, kind) = (self.list)(seed, index);
             let good = (index >= calls || self.called(&bytes))

@@ -31,6 +31,7 @@ fn found_right(call: Call<u8>) -> usize {
         places: moves,
         call: Some(call),
         list,
+        also: Vec::new(),
     };
     (0..LISTS)
         .filter(|&index| tried.called(&list(5, index).0))
@@ -118,6 +119,7 @@ fn told(script: &str, list: &[u8]) -> bool {
         places: moves,
         call: None,
         list: second::days::list,
+        also: Vec::new(),
     };
     tried.told(&["sh".into(), "-c".into(), script.into()], list)
 }

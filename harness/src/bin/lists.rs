@@ -32,6 +32,7 @@ fn main() -> ExitCode {
         places: moves,
         call: CALL,
         list,
+        also: Vec::new(),
     };
     let words: Vec<String> = env::args().skip(1).collect();
     tried.command("lists", &words)
