@@ -7,5 +7,7 @@ pub mod Places
 pub mod Parts
 pub mod Steps
 pub mod Heads
+pub mod Passing
 pub mod Formed
+pub mod Above
 pub mod Few

@@ -10,13 +10,11 @@ use lib.ListN.{length, getD, take, drop, set, length-append}
 use lib.Seq.{drop-cons, set-at}
 use Rattle.days.specs.declared.Metal.{Metal}
 use Rattle.days.specs.declared.Day.{Day}
-use Rattle.days.specs.declared.Next.{Next}
 use Rattle.days.specs.declared.Next.the-variants.{Found, End}
-use Rattle.days.specs.declared.Next.the-variants.{Refused as NoDay}
 use Rattle.days.specs.Lines.{linesOf}
-use Rattle.days.specs.Listed.{Days, All, Stop, before, daysFrom}
+use Rattle.days.specs.Listed.{Days, All, Stop, daysFrom}
 use Rattle.days.specs.Places.{nextOf}
-use Rattle.days.specs.Steps.{daysAfter, days-next}
+use Rattle.days.specs.Passing.{no-day-left, one-passed}
 use Rattle.days.specs.Formed.{next-small}
 use Rattle.watch.specs.Watch.{spansOn, spansFrom, spans}
 use Rattle.watch.specs.Window.{window, priceOf, interestOf, Small, take-window, small-shift, small-none, byteIn, byte-window}
@@ -53,39 +51,23 @@ pub spans-length : (metal : Metal) (recent ds : List Day) → length (spansFrom 
 spans-length metal recent [] = refl
 spans-length metal recent (d ∷ ds) = ap suc (spans-length metal (d ∷ recent) ds)
 
-before-all : (d : Day) (r : Days) (rest : List Day) → before d r ≡ All rest → (ds : List Day) × (r ≡ All ds) × (rest ≡ d ∷ ds)
-before-all d (All ds) rest h = (ds, refl, cc)
-before-all d (Stop n place) rest h = absurd (let z : _≡_ {A = ℕ} 0 1 = cc in omega arith)
-
-put-more : (put entry : List ℕ) (i b : ℕ) → length put ≡ i → i < length entry → set (put ++ drop i entry) i b ≡ (put ++ (b ∷ [])) ++ drop (i + 1) entry
+pub put-more : (put entry : List ℕ) (i b : ℕ) → length put ≡ i → i < length entry → set (put ++ drop i entry) i b ≡ (put ++ (b ∷ [])) ++ drop (i + 1) entry
 put-more put entry i b e h = rw (drop-cons entry i 0, set-at put (getD entry i 0) (drop (suc i) entry) b i e, append-assoc, add-one)
 
 spans-put : (metal : Metal) (recent rest ds : List Day) (d : Day) (put : List ℕ) (b : ℕ) → rest ≡ d ∷ ds → b ≡ spansOn metal (d ∷ recent) →
     put ++ spansFrom metal recent rest ≡ (put ++ (b ∷ [])) ++ spansFrom metal (d ∷ recent) ds
 spans-put metal recent rest ds d put b more e = rw (more, e, append-assoc)
 
-none-left : (l : List Day) → length l ≡ 0 → l ≡ []
+pub none-left : (l : List Day) → length l ≡ 0 → l ≡ []
 none-left [] e = refl
 none-left (d ∷ l) e = absurd (omega arith)
 
-put-all : (put entry whole : List ℕ) → whole ≡ put ++ [] → put ++ drop (length put) entry ≡ whole ++ drop (length whole) entry
+pub put-all : (put entry whole : List ℕ) → whole ≡ put ++ [] → put ++ drop (length put) entry ≡ whole ++ drop (length whole) entry
 put-all put entry whole e = ap (λ (l : List ℕ). l ++ drop (length l) entry) (sym (e ∙ append-nil put))
 
 module _ {metal : Metal} {s entry whole : List ℕ} {count at i : ℕ} {prices interests run : List ℕ} (w : Watched metal s entry whole count at i prices interests run) where
-  next-read : (n : Next) → nextOf false s at ≡ n → daysAfter false (suc i) s n ≡ All (w .rest)
-  next-read n e = sym (ap (daysAfter false (suc i) s) e) ∙ sym (days-next false s at (suc i)) ∙ w .read
-
-  -- a day is left, so that nothing else stands there
-  pub not-refused : (n : ℕ) → nextOf false s at ≡ NoDay n → ⊥
-  not-refused n e = let q = next-read (NoDay n) e in let z : _≡_ {A = ℕ} 0 1 = cc in omega arith
-
   pub not-ended : i < count → nextOf false s at ≡ End → ⊥
-  not-ended h e =
-      let none : [] ≡ w .rest = all-same (next-read End e) in
-      omega (arith, ap length none, w .left)
-    where
-      all-same : {x y : List Day} → All x ≡ All y → x ≡ y
-      all-same k = cc
+  not-ended h e = omega (arith, ap length (no-day-left false s at (suc i) (w .read) e), w .left)
 
   module _ (d : Day) (next : ℕ) (found : nextOf false s at ≡ Found d next) where
     abbrev pub nextPrices : List ℕ
@@ -114,7 +96,7 @@ module _ {metal : Metal} {s entry whole : List ℕ} {count at i : ℕ} {prices i
     pub watched-more : (b : ℕ) → b ≡ byteIn metal nextPrices nextInterests (i + 1) → i < length entry →
         Watched metal s entry whole count next (i + 1) nextPrices nextInterests (set run i b)
     watched-more b e h =
-        let (ds, r, more) = before-all d (daysFrom false (suc (suc i)) (linesOf (drop next s))) (w .rest) (next-read (Found d next) found) in
+        let (ds, r, more) = one-passed false s at (suc i) (w .read) d next found in
         record {
           recent = d ∷ w .recent;
           rest = ds;

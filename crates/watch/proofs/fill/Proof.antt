@@ -10,9 +10,10 @@ use Rattle.days.specs.declared.Next.the-variants.{Found}
 use Rattle.days.specs.Lines.{linesOf}
 use Rattle.days.specs.Listed.{daysFrom}
 use Rattle.days.specs.Places.{nextOf}
+use Rattle.days.specs.Passing.{not-refused}
 use Rattle.writing.specs.Written.{written-front}
 use Rattle.watch.specs.Window.{Small}
-use Rattle.watch.specs.Filling.{spansIn, Watched, watched-none, watched-next, watched-all, prices-small, interests-small, not-refused, not-ended}
+use Rattle.watch.specs.Filling.{spansIn, Watched, watched-none, watched-next, watched-all, prices-small, interests-small, not-ended}
 use Rattle.watch.proofs.fill.Statement.{statement}
 use Rattle.watch.proofs.fill.Tie as tie
 
@@ -96,7 +97,7 @@ same-length : tie.Need-same-length Inv-loop μ-loop
 same-length c = loop-length (c .before .before .before .before)
 
 returns : tie.Need-returns Inv-loop μ-loop
-returns c = let n = c .before .before in absurd (not-refused (n .before .before .loop .inv .2) _ (sym (n .next-day .ensures) ∙ c .enum-told .given .1))
+returns c = let n = c .before .before in absurd (not-refused false _ _ _ (n .before .before .loop .inv .2 .read) _ (sym (n .next-day .ensures) ∙ c .enum-told .given .1))
 
 enum-told-2 : tie.Need-enum-told-2 Inv-loop μ-loop
 enum-told-2 c = search needs
