@@ -9,11 +9,12 @@ ghost use mathlib.Core.Path.{_≡_};
 ghost use mathlib.Core.Bool.{false};
 ghost use lib.ListN.{length};
 ghost use Prim.Native.Nat.{_≤_};
+ghost use Rattle.rules.specs.Text.{bytes};
 ghost use Rattle.days.specs.Lines.{feeds};
 ghost use Rattle.days.specs.Listed.{verdictOf};
+ghost use Rattle.intake.specs.Told.{Put, statusBy, saidBy, Ends, Exit};
 ghost use Rattle.watch.specs.Moves.{listingBy};
 ghost use Rattle.moves.specs.Sizes.{listingRoom};
-ghost use Rattle.moves.specs.Told.{Put, statusBy, saidBy, Ends, Exit};
 
 // So many bytes of a list are kept: those behind them matter only through their line feeds.
 const FRONT: usize = 60_000;
@@ -40,7 +41,7 @@ fn tell(front: &[u8], total: usize, spans: &mut [u8], out: &mut [u8], words: &mu
     requires { ⌜ listingRoom ≤ length (now out) ⌝ }
     requires { ⌜ 256 ≤ length (now words) ⌝ }
     ensures { λ r. ⌜ Put (listingBy (verdictOf false total (now (front .entry)))) (now (out .entry)) (now (out .exit)) (r .listed) ⌝ }
-    ensures { λ r. ⌜ Put (saidBy (verdictOf false total (now (front .entry)))) (now (words .entry)) (now (words .exit)) (r .said) ⌝ }
+    ensures { λ r. ⌜ Put (saidBy (bytes "moves") (verdictOf false total (now (front .entry)))) (now (words .entry)) (now (words .exit)) (r .said) ⌝ }
     ensures { λ r. ⌜ r .status ≡ statusBy (verdictOf false total (now (front .entry))) ⌝ }
 {
     let found = watch::moves_in(front, total, spans);

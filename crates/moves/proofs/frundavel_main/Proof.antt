@@ -10,7 +10,7 @@ use Rattle.days.specs.Lines.{feeds}
 use Rattle.days.specs.Listed.{verdictOf}
 use Rattle.intake.specs.declared.Long.{Long}
 use Rattle.intake.specs.Long.{LongCame}
-use Rattle.moves.proofs.Tells.{small, held, exits}
+use Rattle.intake.specs.Telling.{small, held, exits}
 use Rattle.moves.proofs.frundavel_main.Statement.{statement}
 use Rattle.moves.proofs.frundavel_main.Tie as tie
 

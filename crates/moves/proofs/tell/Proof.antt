@@ -9,9 +9,11 @@ use mathlib.Core.List.{List}
 use lib.ListN.{length, take, length-take}
 use mir.Syntax.{w64}
 use mir.Val.{Fits}
+use Rattle.rules.specs.Text.{bytes}
 use Rattle.days.specs.Listed.{verdictOf}
 use Rattle.moves.specs.Sizes.{listed-short}
-use Rattle.moves.proofs.Tells.{short, refusal-short, Took, Not, took, not-taken, put-so, put-none}
+use Rattle.intake.specs.Telling.{short, refusal-short, put-so, put-none}
+use Rattle.moves.proofs.Tells.{Took, Not, took, not-taken}
 use Rattle.moves.proofs.tell.Statement.{statement}
 use Rattle.moves.proofs.tell.Tie as tie
 
@@ -84,7 +86,7 @@ slice-aggregate-put-said c = search needs
 put-said-requires : tie.Need-put-said-requires
 put-said-requires c κs =
     let m = c .before .before .before .before .before .before .before .before .before .before in
-    omega (arith, short (m .moves-in .result .number) (m .moves-in .result .place) (number-fits m) (place-fits m), start m .pre .1 .1 .1)
+    omega (arith, short (bytes "moves") (m .moves-in .result .number) (m .moves-in .result .place) (omega arith) (number-fits m) (place-fits m), start m .pre .1 .1 .1)
 
 same-length-3 : tie.Need-same-length-3
 same-length-3 c = search needs
@@ -106,7 +108,7 @@ returns-2 c =
     let n = m .moves-in .result .number in
     let at = m .moves-in .result .place in (
       put-so (p .put-refusal .ensures) (r .listing) (omega (arith, refusal-short n at (number-fits m) (place-fits m), s .pre .1 .1 .0)),
-      (put-so (q .put-said .ensures) (r .line) (omega (arith, short n at (number-fits m) (place-fits m), s .pre .1 .1 .1)), r .status),
+      (put-so (q .put-said .ensures) (r .line) (omega (arith, short (bytes "moves") n at (omega arith) (number-fits m) (place-fits m), s .pre .1 .1 .1)), r .status),
     )
 
 pub tell-spec : {M : Type 1} → statement M

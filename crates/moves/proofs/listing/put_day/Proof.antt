@@ -8,7 +8,8 @@ use Rattle.rules.specs.Text.{bytes}
 use Rattle.rules.specs.Report.{digits}
 use Rattle.writing.specs.Written.{join}
 use Rattle.watch.specs.Moves.{kind}
-use Rattle.moves.proofs.Lines.{same-wrote, nothing, no-line, line-of, line-size}
+use Rattle.intake.specs.Telling.{same-wrote, nothing}
+use Rattle.moves.proofs.Lines.{no-line, line-of, line-size}
 use Rattle.moves.proofs.listing.put_day.Statement.{statement}
 use Rattle.moves.proofs.listing.put_day.Tie as tie
 

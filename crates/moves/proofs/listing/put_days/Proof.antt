@@ -1,7 +1,7 @@
 -- `moves::listing::put_days` meets its contract. The loop's invariant: the lines of i days stand behind the first line.
 -- Assumes nothing.
 use borrow.Author.Needs.{needs}
-use mathlib.Core.Path.{_≡_, refl}
+use mathlib.Core.Path.{_≡_, refl, ap}
 use Prim.Native.Nat.{_+_, _-_, _≤_}
 use native.Mathlib.Omega.{arith}
 use mathlib.Core.List.{_++_}
@@ -9,21 +9,23 @@ use lib.ListN.{length, length-append}
 use Rattle.rules.specs.Text.{bytes}
 use Rattle.rules.specs.Report.{digits}
 use Rattle.writing.specs.Written.{Wrote, join}
-use Rattle.watch.specs.Moves.{dayLines}
+use Rattle.watch.specs.Moves.{dayLine}
 use Rattle.moves.specs.Sizes.{listed-short}
-use Rattle.moves.proofs.Lines.{wrote-length, Rolled, rolled-none, rolled-more, rolled-room, rolled-all, listed-size, listed-joined}
+use Rattle.intake.specs.Telling.{same-wrote, wrote-length}
+use Rattle.intake.specs.Rolled.{linesBy, Rolled, rolled-none, rolled-more, rolled-room, rolled-all}
+use Rattle.moves.proofs.Lines.{lines-same, listed-size, listed-joined}
 use Rattle.moves.proofs.listing.put_days.Statement.{statement}
 use Rattle.moves.proofs.listing.put_days.Tie as tie
 
 abbrev Inv-loop : tie.InvT-loop
-Inv-loop out₀ bytes count at₀ i₀ out at i = (i ≤ length bytes) × (length out ≡ length out₀) × Rolled bytes out₀ out at₀ at i
+Inv-loop out₀ bytes count at₀ i₀ out at i = (i ≤ length bytes) × (length out ≡ length out₀) × Rolled dayLine bytes out₀ out at₀ at i
 
 abbrev μ-loop : tie.MeasureT-loop
 μ-loop out₀ bytes count at₀ i₀ out at i = length bytes - i
 
 -- all of it fits
-fits : (s : tie.Start Inv-loop μ-loop) → 6 + length (digits (length (s .args .bytes .now))) + length (dayLines 1 (s .args .bytes .now)) ≤ length (s .args .out .now)
-fits s = omega (arith, listed-short (s .args .bytes .now) (s .pre .0), listed-size (s .args .bytes .now), s .pre .1)
+fits : (s : tie.Start Inv-loop μ-loop) → 6 + length (digits (length (s .args .bytes .now))) + length (linesBy dayLine 1 (s .args .bytes .now)) ≤ length (s .args .out .now)
+fits s = omega (arith, ap length (lines-same 1 (s .args .bytes .now)), listed-short (s .args .bytes .now) (s .pre .0), listed-size (s .args .bytes .now), s .pre .1)
 
 abbrev feed : tie.At-loop Inv-loop μ-loop → tie.After-put-byte Inv-loop μ-loop
 feed l = l .before .before .before
@@ -39,7 +41,7 @@ head : (l : tie.At-loop Inv-loop μ-loop) → Wrote 0 (bytes "days " ++ digits (
 head l = join (number l .put-worded .ensures) (feed l .put-byte .ensures) (omega arith)
 
 -- and what is behind it
-behind : (l : tie.At-loop Inv-loop μ-loop) → feed l .put-byte .result + length (dayLines 1 (start l .args .bytes .now)) ≤ length (feed l .put-byte .last .0)
+behind : (l : tie.At-loop Inv-loop μ-loop) → feed l .put-byte .result + length (linesBy dayLine 1 (start l .args .bytes .now)) ≤ length (feed l .put-byte .last .0)
 behind l = omega (arith, fits (start l), head l .next, simp length-append at (head l .next), wrote-length (head l) (simp length-append (omega (arith, fits (start l)))))
 
 slice-aggregate-put-worded : tie.Need-slice-aggregate-put-worded Inv-loop μ-loop
@@ -52,7 +54,7 @@ put-byte-requires : tie.Need-put-byte-requires Inv-loop μ-loop
 put-byte-requires c κs = let p = c .before .before .before in let s = p .before .before .before .before .before in omega (arith, fits s, p .put-worded .ensures .next)
 
 loop-holds : tie.Need-loop-holds Inv-loop μ-loop
-loop-holds c = (search needs, refl, rolled-none _ _ _)
+loop-holds c = (search needs, refl, rolled-none _ _ _ _)
 
 add-put-day : tie.Need-add-put-day Inv-loop μ-loop
 add-put-day c = search needs
@@ -83,7 +85,7 @@ same-length c = search needs
 returns : tie.Need-returns Inv-loop μ-loop
 returns c =
     let l = c .before in
-    listed-joined (start l .args .bytes .now) (join (head l) (rolled-all (l .loop .inv .2) (c .loop-test .left)) (omega arith))
+    listed-joined (start l .args .bytes .now) (join (head l) (same-wrote (lines-same 1 (start l .args .bytes .now)) (rolled-all (l .loop .inv .2) (c .loop-test .left))) (omega arith))
 
 pub put-days-spec : {M : Type 1} → statement M
 put-days-spec =

@@ -7,7 +7,8 @@ use native.Mathlib.Omega.{arith}
 use lib.ListN.{length}
 use Rattle.writing.specs.Written.{join}
 use Rattle.watch.specs.Moves.{isSet, word, kind}
-use Rattle.moves.proofs.Lines.{same-wrote, word-met, kind-size}
+use Rattle.intake.specs.Telling.{same-wrote}
+use Rattle.moves.proofs.Lines.{word-met, kind-size}
 use Rattle.moves.proofs.listing.put_kind.Statement.{statement}
 use Rattle.moves.proofs.listing.put_kind.Tie as tie
 

@@ -7,7 +7,8 @@ use borrow.Author.Tests.{not-true, not-false}
 use native.Mathlib.Omega.{arith}
 use lib.ListN.{length, length-append}
 use Rattle.writing.specs.Written.{join}
-use Rattle.moves.proofs.Lines.{same-wrote, nothing, word-met}
+use Rattle.intake.specs.Telling.{same-wrote, nothing}
+use Rattle.moves.proofs.Lines.{word-met}
 use Rattle.moves.proofs.listing.put_span.Statement.{statement}
 use Rattle.moves.proofs.listing.put_span.Tie as tie
 

@@ -1,4 +1,4 @@
--- docs/MOVES.md. What the program says of a list, and the status that it ends with.
+-- docs/MOVES.md. What a program that reads a list of days says of it, and the status that it ends with.
 -- Assumes nothing.
 use Prim.Native.Nat.{ℕ, _≤_}
 use mathlib.Core.Path.{_≡_}
@@ -6,7 +6,6 @@ use mathlib.Core.List.{List, []}
 use mathlib.Core.Logic.{_⊎_}
 use lib.ListN.{length}
 use lib.IntN.{ℤ, pos, negsuc}
-use Rattle.rules.specs.Text.{bytes}
 use Rattle.days.specs.Listed.{Verdict, Refused, Accepted}
 use Rattle.writing.specs.Written.{written}
 use Rattle.saying.specs.Said.{said}
@@ -23,10 +22,10 @@ abbrev pub statusBy : Verdict → ℕ
 statusBy (Refused n place) = shell.refused
 statusBy (Accepted metal ds) = shell.accepted
 
--- on standard error: the line of a refusal, and nothing of an accepted list
-abbrev pub saidBy : Verdict → List ℕ
-saidBy (Refused n place) = said (bytes "moves") n place
-saidBy (Accepted metal ds) = []
+-- on standard error: the line of a refusal, which begins with the program's name, and nothing of an accepted list
+abbrev pub saidBy : List ℕ → Verdict → List ℕ
+saidBy program (Refused n place) = said program n place
+saidBy program (Accepted metal ds) = []
 
 -- the program's status; or 2, where its listing was not written
 abbrev pub Ends : Verdict → ℕ → Type 0
