@@ -23,6 +23,7 @@ MACHINE = $(shell uname -m)
 program = target/bin/allot
 cutback = target/bin/cutback
 moves = target/bin/moves
+ladder = target/bin/ladder
 archive = target/staticlib/libfrundavel.a
 # the call worked in rows, for the comparison of both layouts
 rows = target/staticlib/librows.a
@@ -64,12 +65,12 @@ plain-folders = $(if $(odd-folder),$(error make $@: $(odd-folder) has one of the
 .NOTPARALLEL:
 .DELETE_ON_ERROR:
 # kept, as .PRECIOUS would keep it, but taken away where it is half written
-.SECONDARY: target/staticlib/liballot.a target/staticlib/libcutting.a target/staticlib/libmoves.a
+.SECONDARY: target/staticlib/liballot.a target/staticlib/libcutting.a target/staticlib/libmoves.a target/staticlib/libladder.a
 
 sample: $(program)
 	$(RUN) $(program) examples/listing.book
 
-all: $(program) $(cutback) $(moves) $(archive) $(shared)
+all: $(program) $(cutback) $(moves) $(ladder) $(archive) $(shared)
 
 help:
 	@sed -n 's/^# \(make\)/\1/p' Makefile
@@ -118,6 +119,7 @@ install:
 	$(INSTALL) -m 755 $(program) "$(DESTDIR)$(bindir)/allot"
 	$(INSTALL) -m 755 $(cutback) "$(DESTDIR)$(bindir)/cutback"
 	$(INSTALL) -m 755 $(moves) "$(DESTDIR)$(bindir)/moves"
+	$(INSTALL) -m 755 $(ladder) "$(DESTDIR)$(bindir)/ladder"
 	$(INSTALL) -m 755 examples/show-book "$(DESTDIR)$(bindir)/show-book"
 	$(INSTALL) -m 644 include/frundavel.h "$(DESTDIR)$(includedir)/frundavel.h"
 	$(INSTALL) -m 644 $(archive) "$(DESTDIR)$(libdir)/libfrundavel.a"
@@ -127,6 +129,7 @@ install:
 	$(INSTALL) -m 644 docs/allot.1 "$(DESTDIR)$(mandir)/man1/allot.1"
 	$(INSTALL) -m 644 docs/cutback.1 "$(DESTDIR)$(mandir)/man1/cutback.1"
 	$(INSTALL) -m 644 docs/moves.1 "$(DESTDIR)$(mandir)/man1/moves.1"
+	$(INSTALL) -m 644 docs/ladder.1 "$(DESTDIR)$(mandir)/man1/ladder.1"
 	$(INSTALL) -m 644 docs/frundavel.3 "$(DESTDIR)$(mandir)/man3/frundavel.3"
 	printf '%s\n' 'prefix=$(PREFIX)' 'includedir=$(call below,$(includedir))' 'libdir=$(call below,$(libdir))' '' 'Name: frundavel' \
 		'Description: Forced offsetting allotment' 'Version: $(VERSION)' 'Cflags: -I"$${includedir}"' \
@@ -141,6 +144,7 @@ uninstall:
 	rm -f "$(DESTDIR)$(libdir)/libfrundavel.a" "$(DESTDIR)$(libdir)/libfrundavel.so" "$(DESTDIR)$(libdir)/libfrundavel.so.0" \
 		"$(DESTDIR)$(libdir)/libfrundavel.so.$(VERSION)" "$(DESTDIR)$(pkgconfigdir)/frundavel.pc"
 	rm -f "$(DESTDIR)$(bindir)/moves" "$(DESTDIR)$(mandir)/man1/moves.1"
+	rm -f "$(DESTDIR)$(bindir)/ladder" "$(DESTDIR)$(mandir)/man1/ladder.1"
 	rm -f "$(DESTDIR)$(mandir)/man1/allot.1" "$(DESTDIR)$(mandir)/man3/frundavel.3"
 
 clean:

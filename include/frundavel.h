@@ -55,8 +55,8 @@ extern "C" {
 /* A list of days has at most so many: a run of so many places is enough for every list. */
 #define FRUNDAVEL_MOST_DAYS 2000
 
-/* The numbers of an answer. The table below says when each is given; from 30 on they are those of a list of days (frundavel_moves; 32 is of a
- * form of lists that no call reads yet). */
+/* The numbers of an answer. The table below says when each is given; from 30 on they are those of a list of days (frundavel_moves and
+ * frundavel_ladder; 32 is given by the latter alone). */
 enum frundavel_number {
     FRUNDAVEL_ACCEPTED = 0,
     FRUNDAVEL_TOO_LONG = 1,
@@ -224,6 +224,35 @@ frundavel_answer frundavel_cutback(const uint8_t *kind, size_t kind_size, const 
  * - What is said above of pointers, memory and threads holds here too.
  */
 frundavel_answer frundavel_moves(const uint8_t *list, size_t size, uint8_t *spans, size_t places);
+
+/* The kind of a day's step in the lock ladder. */
+enum frundavel_step {
+    FRUNDAVEL_NOT_LOCKED = 0,
+    FRUNDAVEL_FIRST_HOLDS = 1,         /* a first lock, and the next day's limit is raised by three to six percentage points */
+    FRUNDAVEL_FIRST_FAILS = 2,         /* a first lock, and it is not */
+    FRUNDAVEL_FIRST_NO_DAY = 3,        /* a first lock, and no day follows */
+    FRUNDAVEL_FIRST_NO_LIMIT = 4,      /* a first lock without its limit */
+    FRUNDAVEL_FIRST_NO_NEXT_LIMIT = 5, /* a first lock, and the next day is without its limit */
+    FRUNDAVEL_SAME = 6,                /* a lock in the same direction as the day before */
+    FRUNDAVEL_REVERSE = 7              /* a lock in the other direction than the day before */
+};
+
+/* A step in the run: its kind in the low byte, and the days running above it. These are 0 on a day that is not locked, 1 on a first and on a reverse
+ * lock, and 2 or more on a lock in the same direction. */
+#define FRUNDAVEL_STEP_KIND(step) ((step) % 256)
+#define FRUNDAVEL_STEP_DAYS(step) ((step) / 256)
+
+/*
+ * Judges a list of days of `size` bytes, with a mark and a price limit behind the open interest of each day, and, where it is accepted, puts one step for
+ * each day into the lent run (Articles 17 and 18; docs/MOVES.md has the form of a list and the rules).
+ *
+ * - Accepted: number 0, place 0, and length is the number of days. The rest of the run is unaltered.
+ * - 30, 33, 31 and 11 as of frundavel_moves; for one line 33 comes first, then 31, and then 32, another letter as the mark.
+ * - Refused: length 0, and no place of the run is altered.
+ * - There is no limit in bytes. frundavel_reason has no words for these numbers.
+ * - What is said above of pointers, memory and threads holds here too.
+ */
+frundavel_answer frundavel_ladder(const uint8_t *list, size_t size, uint64_t *steps, size_t places);
 
 #ifdef __cplusplus
 }

@@ -75,7 +75,7 @@ table =
     prints "33 before 31 in a line" "gold\n0.00 x\n" "refused 33 at 1\n" ∷
     prints "the first bad line" "gold\n0.00 1\nx\n" "refused 31 at 1\n" ∷ []
 
-pub hold : AllHold table
+pub hold : AllHold listing table
 unfolding table listing judge verdictOf listOf daysFrom linesOf dayOf shortOf longOf judgedDay interestOf figureOf writtenOf spans spansOn rowAt listed dayLine kind digits
 hold =
     so & so & so & so & so & so & so & so & so & so & so & so & so & so & so & so & so & so & so & so &
