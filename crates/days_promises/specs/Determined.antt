@@ -12,6 +12,7 @@ use Rattle.watch.specs.declared.Found.{Found}
 use Rattle.watch.specs.Answered.{Answered}
 use Rattle.days.proofs as days
 use Rattle.watch.proofs as watch
+use Rattle.locks.proofs as locks
 use Rattle.saying.proofs as saying
 
 abbrev pub Contract : Ended → Type 1
@@ -49,6 +50,16 @@ moves-in κs a r q s t e f = (answered e f .0, ap (λ (l : List ℕ). (tt, (tt, 
 pub moves : Determined watch.moves.ended watch.moves.Reads.Learnt
 moves κs a r q s t e f = (answered e f .0, ap (λ (l : List ℕ). (tt, (l, tt))) (answered e f .1))
 
+-- locks
+pub ladder-in : Determined locks.ladder_in.ended locks.ladder_in.Reads.Learnt
+ladder-in κs a r q s t e f = (answered e f .0, ap (λ (l : List ℕ). (tt, (tt, (l, tt)))) (answered e f .1))
+
+pub ladder : Determined locks.ladder.ended locks.ladder.Reads.Learnt
+ladder κs a r q s t e f = (answered e f .0, ap (λ (l : List ℕ). (tt, (l, tt))) (answered e f .1))
+
+pub step-of : Determined locks.step_of.ended locks.step_of.Reads.Learnt
+step-of κs a r q s t e f = (e ∙ sym f, refl)
+
 -- saying
 pub put-said : Determined saying.put_said.ended saying.put_said.Reads.Learnt
 put-said κs a r q s t e f = (e .next ∙ sym (f .next), ap (λ (l : List ℕ). (l, (tt, (tt, (tt, tt))))) (e .whole ∙ sym (f .whole)))
@@ -65,3 +76,9 @@ asks-judge κs a = tt
 
 pub asks-moves : AsksNothing watch.moves.ended watch.moves.Reads.Asked
 asks-moves κs a = tt
+
+pub asks-ladder : AsksNothing locks.ladder.ended locks.ladder.Reads.Asked
+asks-ladder κs a = tt
+
+pub asks-step-of : AsksNothing locks.step_of.ended locks.step_of.Reads.Asked
+asks-step-of κs a = tt

@@ -1,6 +1,6 @@
--- docs/MOVES.md. "There is no limit in bytes": the verdict on a list is a function of its first 60,000 bytes and of the number of its line feeds in
--- all. A line of its form has at most 19 bytes, and 30 in the longer form, before its line feed; so where the first bytes are not the whole list, they
--- end behind all good lines, or in a line that is 33 in the list too.
+-- docs/MOVES.md. "There is no limit in bytes": the verdict on a list is a function of its first 60,000 bytes, or 64,000 in the longer form, and of the
+-- number of its line feeds in all. A line of its form has at most 19 bytes, and 30 in the longer form, before its line feed; so where the first bytes
+-- are not the whole list, they end behind all good lines, or in a line that is 33 in the list too.
 -- Assumes nothing.
 use Prim.Native.Nat.{ℕ, zero, suc, _+_, _-_, _*_, _≤_, _<_}
 use mathlib.Core.Path.{_≡_, refl, sym, ap, _∙_}
@@ -171,11 +171,14 @@ enough long s m room =
     (λ b. simp b)
     (λ b. simp b (enough-list long s m (ltb-false 2_001 (feeds s) b) room))
 
--- "the first 60,000", for the short form
+-- "the first 60,000", for the short form; the longer form takes at most 62,038
 pub first-60000 : (s : List ℕ) → verdictOf false (feeds s) (take 60_000 s) ≡ judge false s
 first-60000 s = enough false s 60_000 (omega arith)
 
--- where a list has more than any may have, every other such number serves as well: the program stops counting there
-pub counted-enough : (s : List ℕ) (total : ℕ) → 2_001 < feeds s → 2_001 < total → verdictOf false total (take 60_000 s) ≡ judge false s
+pub first-64000 : (s : List ℕ) → verdictOf true (feeds s) (take 64_000 s) ≡ judge true s
+first-64000 s = enough true s 64_000 (omega arith)
+
+-- where a list has more than any may have, every other such number serves as well: the programs stop counting there
+pub counted-enough : (long : Bool) (m : ℕ) (s : List ℕ) (total : ℕ) → 2_001 < feeds s → 2_001 < total → verdictOf long total (take m s) ≡ judge long s
 unfolding judge verdictOf
-counted-enough s total many more = simp (lt-ltb 2_001 total more, lt-ltb 2_001 (feeds s) many)
+counted-enough long m s total many more = simp (lt-ltb 2_001 total more, lt-ltb 2_001 (feeds s) many)

@@ -10,6 +10,7 @@ ghost use Rattle.columns.specs.View.{runs, placesOf, viewed, Viewed};
 ghost use Rattle.cutback.specs.Lines.{codesIn};
 ghost use Rattle.cutback.specs.Judge.{judge, answerOf};
 ghost use Rattle.watch.specs.Moves.{moves};
+ghost use Rattle.locks.specs.Listing.{ladder};
 
 // A book and a lent buffer: the answer, and the report at the front of the buffer where the book is accepted.
 #[no_mangle]
@@ -84,6 +85,20 @@ pub extern "C" fn frundavel_moves(list: &[u8], spans: &mut [u8]) -> Answer
     ensures { λ r. ⌜ Answered (moves (now (list .entry)) (length (now (spans .entry)))) r (now (spans .entry)) (now (spans .exit)) ⌝ }
 {
     let found = watch::moves(list, spans);
+    Answer {
+        number: found.number,
+        place: found.place,
+        length: found.length,
+    }
+}
+
+// A list of days with marks and limits, and a lent run: the answer, and in the first places of the run a rung for each day where the list is
+// accepted.
+#[no_mangle]
+pub extern "C" fn frundavel_ladder(list: &[u8], steps: &mut [u64]) -> Answer
+    ensures { λ r. ⌜ Answered (ladder (now (list .entry)) (length (now (steps .entry)))) r (now (steps .entry)) (now (steps .exit)) ⌝ }
+{
+    let found = locks::ladder(list, steps);
     Answer {
         number: found.number,
         place: found.place,

@@ -36,6 +36,9 @@ frundavel-allot κs a = tt
 pub frundavel-moves : AsksNothing frundavel.frundavel_moves.ended frundavel.frundavel_moves.Reads.Asked
 frundavel-moves κs a = tt
 
+pub frundavel-ladder : AsksNothing frundavel.frundavel_ladder.ended frundavel.frundavel_ladder.Reads.Asked
+frundavel-ladder κs a = tt
+
 pub frundavel-reason : AsksNothing frundavel.frundavel_reason.ended frundavel.frundavel_reason.Reads.Asked
 frundavel-reason κs a = tt
 

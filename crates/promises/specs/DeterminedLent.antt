@@ -209,6 +209,9 @@ frundavel-allot κs a r q s t e f = answered e f
 pub frundavel-moves : Determined frundavel.frundavel_moves.ended frundavel.frundavel_moves.Reads.Learnt
 frundavel-moves κs a r q s t e f = answered e f
 
+pub frundavel-ladder : Determined frundavel.frundavel_ladder.ended frundavel.frundavel_ladder.Reads.Learnt
+frundavel-ladder κs a r q s t e f = answered e f
+
 pub frundavel-reason : Determined frundavel.frundavel_reason.ended frundavel.frundavel_reason.Reads.Learnt
 frundavel-reason κs a r q s t e f = (
   answered e f .0,
