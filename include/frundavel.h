@@ -21,9 +21,9 @@ extern "C" {
 #endif
 
 /* The version. CHANGELOG.md of the source tree says what changed with each. */
-#define FRUNDAVEL_VERSION "0.9.0"
+#define FRUNDAVEL_VERSION "0.10.0"
 #define FRUNDAVEL_VERSION_MAJOR 0
-#define FRUNDAVEL_VERSION_MINOR 9
+#define FRUNDAVEL_VERSION_MINOR 10
 #define FRUNDAVEL_VERSION_PATCH 0
 
 /* A book has at most so many bytes; a longer one is refused with number 1. Reading one byte more than this is enough to see it. */
@@ -249,7 +249,7 @@ enum frundavel_step {
  * - Accepted: number 0, place 0, and length is the number of days. The rest of the run is unaltered.
  * - 30, 33, 31 and 11 as of frundavel_moves; for one line 33 comes first, then 31, and then 32, another letter as the mark.
  * - Refused: length 0, and no place of the run is altered.
- * - There is no limit in bytes. frundavel_reason has no words for these numbers.
+ * - There is no limit in bytes. frundavel_reason has the words for these numbers, without a book.
  * - What is said above of pointers, memory and threads holds here too.
  */
 frundavel_answer frundavel_ladder(const uint8_t *list, size_t size, uint64_t *steps, size_t places);
