@@ -249,7 +249,7 @@ enum frundavel_step {
  * - Accepted: number 0, place 0, and length is the number of days. The rest of the run is unaltered.
  * - 30, 33, 31 and 11 as of frundavel_moves; for one line 33 comes first, then 31, and then 32, another letter as the mark.
  * - Refused: length 0, and no place of the run is altered.
- * - There is no limit in bytes. frundavel_reason has the words for these numbers, without a book.
+ * - There is no limit in bytes. frundavel_reason has no words for these numbers.
  * - What is said above of pointers, memory and threads holds here too.
  */
 frundavel_answer frundavel_ladder(const uint8_t *list, size_t size, uint64_t *steps, size_t places);
