@@ -7,6 +7,7 @@ pub mod Blanks
 pub mod Twos
 pub mod Figures
 pub mod Pairs
+pub mod Wholes
 pub mod Lots
 pub mod Fronts
 pub mod Heads

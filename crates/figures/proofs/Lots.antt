@@ -4,7 +4,7 @@ use Prim.Native.Nat.{ℕ, zero, suc, _+_, _-_, _*_, _≤_, _^_}
 use Prim.Native.Char.{code}
 use mathlib.Core.Path.{_≡_, refl, sym, ap, _∙_}
 use mathlib.Core.Bool.{true, not, _||_, and-eq-true-iff}
-use mathlib.Core.List.{List, [], _∷_, _++_, append-nil}
+use mathlib.Core.List.{List, [], _∷_, _++_}
 use native.Mathlib.Nat.{add-zero, pow-suc}
 use native.Mathlib.Omega.{arith}
 use borrow.Author.Tests.{le-leb, leb-true, leb-false, eq-eqb, ne-eqb, eqb-true, eqb-false}
@@ -19,10 +19,10 @@ use Rattle.rules.specs.Figures.{isDigit, allDigits, numberAfter, plain, tradedF
 use Rattle.laws.specs.Figures.{figure-read}
 use Rattle.figures.specs.declared.number.Digits.the-variants.{Other}
 use Rattle.figures.specs.declared.number.Digits.the-variants.{Number as Lots}
-use Rattle.figures.specs.Numbers.{run, runNumber}
+use Rattle.figures.specs.Numbers.{run, runNumber, mayBeWhole}
 use Rattle.figures.specs.Pairs.{lotsOf}
 use Rattle.figures.proofs.Runs.{run-append, run-number-append}
-use Rattle.figures.proofs.Shapes.{Decimals, none, some, written-shape, shape-written}
+use Rattle.figures.proofs.Wholes.{all-run, all-number, all-digits, written-whole, whole-digits, tested-whole}
 use Rattle.figures.proofs.Sizes.{at-most}
 use Rattle.figures.proofs.Twos.{digit}
 
@@ -32,16 +32,6 @@ pub record LotsRead (u : List ℕ) (n : ℕ) : Type 0 where
   pub digits : run u ≡ length u
   pub number : runNumber 0 u ≡ n
   pub most : n ≤ 1_000_000
-
-no-tail : {es t : List ℕ} → Decimals es t → length es ≡ 0 → (t ≡ []) × (es ≡ [])
-no-tail none e = (refl, refl)
-no-tail (some es k) e = absurd (omega (arith, k, e))
-
-all-run : (ds : List ℕ) → allDigits ds ≡ true → run ds ≡ length ds
-all-run ds h = ap run (sym (append-nil ds)) ∙ run-append ds [] h ∙ add-zero (length ds)
-
-all-number : (n : ℕ) (ds : List ℕ) → allDigits ds ≡ true → runNumber n ds ≡ numberAfter n ds
-all-number n ds h = ap (runNumber n) (sym (append-nil ds)) ∙ run-number-append n ds [] h
 
 -- a number above 0 does not begin with 0
 first-told : (ds : List ℕ) → plain ds ≡ true → 1 ≤ length ds → 1 ≤ numberAfter 0 ds → getD ds 0 0 ≡ code "0" → ⊥
@@ -56,27 +46,17 @@ first-told (x ∷ y ∷ ds) p h k e =
 pub lots-read : (u : List ℕ) (n : ℕ) → figureOf tradedForm u ≡ Value n → LotsRead u n
 lots-read u n h =
     let f = figure-read tradedForm u n h in
-    let s = written-shape u n 0 (f .written) in
-    let t = no-tail (s .tailed) (sym (s .decimals)) in
-    let all = s .all ∙ ap (λ (l : List ℕ). s .digits ++ l) (t .0) ∙ append-nil (s .digits) in
-    let digits = and-eq-true-iff (allDigits (s .digits)) _ .0 (s .plain) .0 in
-    let number = ap (numberAfter 0) (sym (append-nil (s .digits))) ∙ ap (λ (l : List ℕ). numberAfter 0 (s .digits ++ l)) (sym (t .1)) ∙ sym (s .number) in
+    let w = written-whole u n (f .written) in
+    let digits = whole-digits w in
     record {
-      some = omega (arith, ap length all, s .least);
-      first = λ e. first-told (s .digits) (s .plain) (s .least) (omega (arith, number, f .least)) (ap (λ (l : List ℕ). getD l 0 0) (sym all) ∙ e);
-      digits = ap run all ∙ all-run (s .digits) digits ∙ ap length (sym all);
-      number = ap (runNumber 0) all ∙ all-number 0 (s .digits) digits ∙ number;
+      some = w .least;
+      first = first-told u (w .plain) (w .least) (omega (arith, w .number, f .least));
+      digits = all-run u digits;
+      number = all-number 0 u digits ∙ w .number;
       most = f .most;
     }
 
 -- and such digits are read
-
-all-digits : (u : List ℕ) → run u ≡ length u → allDigits u ≡ true
-all-digits [] h = refl
-all-digits (x ∷ u) h =
-    by-test (isDigit x)
-    (λ e. simp e (all-digits u (omega (arith, simp e at h))))
-    (λ e. absurd (omega (arith, simp e at h)))
 
 -- so many digits, of which the first is not 0, write no less
 one-more : (n d k p m : ℕ) → p ≡ k * 10 → (n * 10 + d) * k ≤ m → n * p ≤ m
@@ -115,22 +95,9 @@ read-lots u n r =
     let digits = all-digits u (r .digits) in
     let number = sym (r .number) ∙ all-number 0 u digits in
     let b = bounds u digits (r .some) (r .first) (omega (arith, number, r .most)) in
-    let nil = append-nil u in
+    let may : mayBeWhole u ≡ true = simp (le-leb 1 (length u) (r .some), le-leb (length u) 7 (b .1), ne-eqb (getD u 0 0) (code "0") (r .first)) in
     in-form u n
-    (shape-written u n 0
-    (record {
-      digits = u;
-      places = [];
-      tail = [];
-      all = sym nil;
-      tailed = none;
-      least = r .some;
-      most = omega (arith, b .1);
-      plain = simp (digits, ne-eqb (getD u 0 0) (code "0") (r .first));
-      decimal = refl;
-      number = number ∙ ap (numberAfter 0) (sym nil);
-      decimals = refl;
-    }))
+    (tested-whole u may (r .digits) ∙ ap (λ (m : ℕ). Number m 0) (r .number))
     (omega (arith, number, b .0))
     (r .most)
 

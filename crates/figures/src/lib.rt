@@ -5,7 +5,7 @@ ghost use Prim.Native.Nat.{ℕ};
 ghost use mathlib.Core.Bool.{true};
 ghost use Rattle.rules.specs.declared.Opening.the-variants.{Made};
 ghost use Rattle.rules.specs.declared.Written.the-variants.{Number};
-ghost use Rattle.rules.specs.Figures.{priceForm, writtenOf, asked, figureOf, has};
+ghost use Rattle.rules.specs.Figures.{priceForm, heldForm, writtenOf, asked, figureOf, has};
 ghost use Rattle.rules.specs.Opening.{openingOf};
 ghost use Rattle.figures.specs.Good.{good, tradeOf};
 ghost use Rattle.figures.specs.Numbers.{noFigure, refusedAs, noOpening};
@@ -20,6 +20,8 @@ mod two;
 use again::pair_again;
 use again::stamp_again;
 use number::Digits;
+use number::may_be_whole;
+use number::read_run;
 use pair::Pair;
 use pair::read_pair;
 use rules::Fen;
@@ -143,6 +145,27 @@ pub fn read_figure(v: &[u8], form: Form) -> Figure
         return refused(written);
     };
     allowed(form, number, decimals)
+}
+
+// A value that is no figure.
+fn no_value(v: &[u8]) -> Figure
+    ensures { λ r. ⌜ r ≡ refusedAs (noFigure (now (v .entry))) ⌝ }
+{
+    refused(no_figure(v))
+}
+
+// Lots in K, H and Q, of which a book has most: digits alone, so that no point is looked for.
+pub fn read_held(v: &[u8]) -> Figure
+    ensures { λ r. ⌜ r ≡ figureOf heldForm (now (v .entry)) ⌝ }
+{
+    if !may_be_whole(v) {
+        return no_value(v);
+    }
+    let run = read_run(v, 0);
+    if run.size != v.len() {
+        return no_value(v);
+    }
+    allowed(HELD, run.number, 0)
 }
 
 fn no_opening(v: &[u8]) -> Opening
