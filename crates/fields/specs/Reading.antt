@@ -13,6 +13,11 @@ use Rattle.rules.specs.Refusal as refusal
 use Rattle.rules.specs.Figures.{figureOf}
 use Rattle.rules.specs.Fields.{Field, Whole, Cut, fieldsOf}
 use Rattle.fields.specs.declared.Refusal.{Refusal}
+use Rattle.fields.specs.declared.Found.{Found}
+use Rattle.fields.specs.declared.Found.the-variants.{Short}
+use Rattle.fields.specs.declared.Found.the-variants.{Field as FieldAt}
+use Rattle.fields.specs.declared.DueAt.{DueAt}
+use Rattle.fields.specs.declared.DueAt.the-variants.{There, Refused}
 use Rattle.fields.specs.declared.FigureAt.{FigureAt}
 use Rattle.fields.specs.declared.FigureAt.the-variants.{Value}
 use Rattle.fields.specs.declared.FigureAt.the-variants.{Refused as NoFigure}
@@ -27,6 +32,11 @@ noRefusal = record { number = refusal.accepted; place = 0 }
 abbrev pub refusalIn : FigureAt → Refusal
 refusalIn (Value n next) = noRefusal
 refusalIn (NoFigure r) = r
+
+-- 2 and 3 at `at`, where the field with this tag is due
+abbrev pub dueIn : ℕ → ℕ → Found → DueAt
+dueIn at tag Short = Refused (refusedAt refusal.cutShort at)
+dueIn at tag (FieldAt t start end) = cond (eqb t tag) (There start end) (Refused (refusedAt refusal.misplaced at))
 
 -- 4 and 5
 abbrev pub figureAt : ℕ → ℕ → Figure → FigureAt
