@@ -55,7 +55,7 @@ fn overdrawn_by(terms: Terms, position: Position) -> bool
 fn read_position(book: &[u8], terms: Terms, at: usize) -> PositionAt
     ensures { λ r. ⌜ r ≡ positionOf (now (book .entry)) terms at ⌝ }
 {
-    let k = fields::figure_at(book, at, tag::K, figures::HELD);
+    let k = fields::held_at(book, at, tag::K);
     let FigureAt::Value {
         number: long,
         next: at_h,
@@ -63,7 +63,7 @@ fn read_position(book: &[u8], terms: Terms, at: usize) -> PositionAt
     else {
         return PositionAt::Refused(fields::refusal_in(k));
     };
-    let h = fields::figure_at(book, at_h, tag::H, figures::HELD);
+    let h = fields::held_at(book, at_h, tag::H);
     let FigureAt::Value {
         number: short,
         next: at_q,
@@ -71,7 +71,7 @@ fn read_position(book: &[u8], terms: Terms, at: usize) -> PositionAt
     else {
         return PositionAt::Refused(fields::refusal_in(h));
     };
-    let q = fields::figure_at(book, at_q, tag::Q, figures::HELD);
+    let q = fields::held_at(book, at_q, tag::Q);
     let FigureAt::Value {
         number: unfilled,
         next,

@@ -94,7 +94,7 @@ fn lots_in(book: &[u8], from: usize, to: usize) -> u64
     requires { ⌜ (from + 3 ≤ to) × (to ≤ length (now book)) ⌝ }
     ensures { λ r. ⌜ r ≡ lotsIn (valueIn (now (book .entry)) from to) ⌝ }
 {
-    match figures::read_figure(&book[from + 3..to], figures::HELD) {
+    match figures::read_held(&book[from + 3..to]) {
         Figure::Value(lots) => lots,
         Figure::Comma => 0,
         Figure::Malformed => 0,
