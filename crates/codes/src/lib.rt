@@ -14,23 +14,6 @@ pub enum Code {
 // How many places there are for marks.
 pub const MARKS: usize = 1_024;
 
-// 37 to the 12, and down to 1.
-const POWERS: [u64; 13] = [
-    6_582_952_005_840_035_281,
-    177_917_621_779_460_413,
-    4_808_584_372_417_849,
-    129_961_739_795_077,
-    3_512_479_453_921,
-    94_931_877_133,
-    2_565_726_409,
-    69_343_957,
-    1_874_161,
-    50_653,
-    1_369,
-    37,
-    1,
-];
-
 // The first where it is a number, and the second where it is a letter.
 fn either(number: bool, x: u8, y: u8) -> u8
     ensures { λ r. ⌜ r ≡ cond number x y ⌝ }
@@ -55,12 +38,27 @@ fn digit(x: u8) -> u64
     (x - none) as u64
 }
 
-// What a number of n digits is worth in 12 places, where the rest has none.
+// What a number of n digits is worth in 12 places, where the rest has none. Chosen, not looked up: an array would be put on the stack anew for
+// each code.
 fn padding(n: usize) -> u64
     requires { ⌜ n ≤ 12 ⌝ }
     ensures { λ r. ⌜ r ≡ 37 ^ (12 - n) ⌝ }
 {
-    POWERS[n]
+    match n {
+        0 => 6_582_952_005_840_035_281,
+        1 => 177_917_621_779_460_413,
+        2 => 4_808_584_372_417_849,
+        3 => 129_961_739_795_077,
+        4 => 3_512_479_453_921,
+        5 => 94_931_877_133,
+        6 => 2_565_726_409,
+        7 => 69_343_957,
+        8 => 1_874_161,
+        9 => 50_653,
+        10 => 1_369,
+        11 => 37,
+        _ => 1,
+    }
 }
 
 pub fn read_code(v: &[u8]) -> Code
