@@ -1,10 +1,11 @@
--- Small answers that the published contracts of five leaf functions allow, where a wrong program of theirs shows no value in the prover's log: equal sides are
+-- Small answers that the published contracts of seven leaf functions allow, where a wrong program of theirs shows no value in the prover's log: equal sides are
 -- not net long, and the larger side is; a refusal is handed on as it is, and a good figure has none; each standing has its letter; a figure has the decimals
--- that are written; "8,000" has a comma.
+-- that are written; "8,000" has a comma; lots held are 0 to 1,000,000, digits alone, and have their own field.
 -- Assumes nothing.
 use Prim.Native.Nat.{ℕ}
 use Prim.Native.Char.{code}
 use mathlib.Core.Bool.{Bool, true, false}
+use mathlib.Core.List.{[], _∷_}
 use mathlib.Core.Path.{_≡_, refl, ap, ap₂, _∙_}
 use contract.Lifetimes.{Lfts}
 use denote.Ref.{now}
@@ -15,11 +16,15 @@ use Rattle.rules.specs.declared.Written.{Written}
 use Rattle.rules.specs.declared.Written.the-variants.{Number, Malformed}
 use Rattle.rules.specs.declared.Figure.{Figure}
 use Rattle.rules.specs.declared.Figure.the-variants.{Comma}
+use Rattle.rules.specs.declared.Figure.the-variants.{Value as Says}
+use Rattle.rules.specs.declared.Figure.the-variants.{Malformed as NoLots}
 use Rattle.rules.specs.declared.Standing.the-variants.{Pending, Tier1, Tier2, Tier3, Neither}
 use Rattle.rules.specs.Refusal as refusal
 use Rattle.rules.specs.Text.{bytes}
-use Rattle.rules.specs.Figures.{lots, rateForm, writtenOf, figureOf}
+use Rattle.rules.specs.Figures.{lots, rateForm, heldForm, writtenOf, figureOf}
+use Rattle.rules.specs.Fields.{fieldsOf}
 use Rattle.fields.specs.declared.Refusal.{Refusal}
+use Rattle.fields.specs.declared.FigureAt.{FigureAt}
 use Rattle.fields.specs.declared.FigureAt.the-variants.{Value}
 use Rattle.fields.specs.declared.FigureAt.the-variants.{Refused as NoFigure}
 use Rattle.fields.specs.Reading.{refusedAt, noRefusal}
@@ -81,3 +86,36 @@ module _ (κs : Lfts 1) (a : Args figures.read_figure.signature κs) (r : Figure
   pub a-comma : now (a .0) ≡ bytes "8,000" → a .1 .0 ≡ rateForm → r ≡ Comma
   unfolding writtenOf figureOf
   a-comma e f = h ∙ ap₂ (λ v w. figureOf w v) e f
+
+module _ (κs : Lfts 1) (a : Args figures.read_held.signature κs) (r : Figure) (s : AtExit figures.read_held.ended κs) (h : figures.read_held.Reads.Learnt κs a r s) where
+  pub none-held : now (a .0) ≡ bytes "0" → r ≡ Says 0
+  unfolding writtenOf figureOf
+  none-held e = h ∙ ap (figureOf heldForm) e
+
+  -- with one lot less at most: none
+  pub most-held : now (a .0) ≡ bytes "1000000" → r ≡ Says 1_000_000
+  unfolding writtenOf figureOf
+  most-held e = h ∙ ap (figureOf heldForm) e
+
+  -- where what follows the digits is passed over: 80
+  pub digits-alone : now (a .0) ≡ bytes "80x" → r ≡ NoLots
+  unfolding writtenOf figureOf
+  digits-alone e = h ∙ ap (figureOf heldForm) e
+
+  -- where nothing is looked for: malformed
+  pub held-comma : now (a .0) ≡ bytes "8,000" → r ≡ Comma
+  unfolding writtenOf figureOf
+  held-comma e = h ∙ ap (figureOf heldForm) e
+
+-- the K of 8 lots
+module _ (κs : Lfts 1) (a : Args fields.held_at.signature κs) (r : FigureAt) (s : AtExit fields.held_at.ended κs) (h : fields.held_at.Reads.Learnt κs a r s)
+    (book : now (a .0) ≡ code "K" ∷ 0 ∷ 1 ∷ code "8" ∷ []) (front : a .1 .0 ≡ 0) where
+  -- where the place after it is that where its value begins: 3
+  pub eight-held : a .1 .1 .0 ≡ code "K" → r ≡ Value 8 4
+  unfolding fieldsOf writtenOf figureOf
+  eight-held e = h ∙ rw (book, front, e) refl
+
+  -- where any tag is taken: the same
+  pub no-h : a .1 .1 .0 ≡ code "H" → r ≡ NoFigure (refusedAt refusal.misplaced 0)
+  unfolding fieldsOf writtenOf figureOf
+  no-h e = h ∙ rw (book, front, e) refl

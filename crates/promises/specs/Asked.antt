@@ -74,11 +74,17 @@ field-at κs a = tt
 pub refusal-in : AsksNothing fields.refusal_in.ended fields.refusal_in.Reads.Asked
 refusal-in κs a = tt
 
+pub held-at : AsksNothing fields.held_at.ended fields.held_at.Reads.Asked
+held-at κs a = tt
+
 pub read-written : AsksNothing figures.read_written.ended figures.read_written.Reads.Asked
 read-written κs a = tt
 
 pub read-figure : AsksNothing figures.read_figure.ended figures.read_figure.Reads.Asked
 read-figure κs a = tt
+
+pub read-held : AsksNothing figures.read_held.ended figures.read_held.Reads.Asked
+read-held κs a = tt
 
 pub read-opening : AsksNothing figures.read_opening.ended figures.read_opening.Reads.Asked
 read-opening κs a = tt

@@ -50,6 +50,9 @@ read-written κs a r q s t e f = (e ∙ sym f, refl)
 pub read-figure : Determined figures.read_figure.ended figures.read_figure.Reads.Learnt
 read-figure κs a r q s t e f = (e ∙ sym f, refl)
 
+pub read-held : Determined figures.read_held.ended figures.read_held.Reads.Learnt
+read-held κs a r q s t e f = (e ∙ sym f, refl)
+
 pub read-opening : Determined figures.read_opening.ended figures.read_opening.Reads.Learnt
 read-opening κs a r q s t e f = (e ∙ sym f, refl)
 
@@ -94,6 +97,9 @@ refusal-in κs a r q s t e f = (e ∙ sym f, refl)
 
 pub figure-at : Determined fields.figure_at.ended fields.figure_at.Reads.Learnt
 figure-at κs a r q s t e f = (e ∙ sym f, refl)
+
+pub held-at : Determined fields.held_at.ended fields.held_at.Reads.Learnt
+held-at κs a r q s t e f = (e ∙ sym f, refl)
 
 -- terms
 pub read-terms : Determined terms.read_terms.ended terms.read_terms.Reads.Learnt
