@@ -3,6 +3,7 @@
 use command::Asked;
 use shell::Got;
 use shell::Input;
+use shell::Opened;
 ghost use mathlib.Core.Path.{_≡_};
 ghost use Prim.Native.Nat.{_≤_};
 ghost use lib.ListN.{length, take};
@@ -79,16 +80,10 @@ fn long_file(program: &[u8], i: usize, buffer: &mut [u8]) -> Long
     ensures { λ r. ⌜ LongCame r (now (buffer .exit)) ⌝ }
 {
     let mut path = io::buffer();
-    let n = os::arg(i, &mut path);
-    if os::errno() != 0 {
-        return Long::Ended(shell::failed(program, b"the file's name"));
+    match shell::open_named(program, i, &mut path) {
+        Opened::File { fd, name } => long_from(program, fd, &path[..name], buffer),
+        Opened::Ended(status) => Long::Ended(status),
     }
-    let fd = os::open_read(&path[..n]);
-    shell::make_visible(&mut path);
-    if fd < 0 {
-        return Long::Ended(shell::failed(program, &path[..n]));
-    }
-    long_from(program, fd, &path[..n], buffer)
 }
 
 // Words that ask for no input.

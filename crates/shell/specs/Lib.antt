@@ -1,2 +1,3 @@
 -- What the contracts of shell cite: what came from an input, and the statuses.
 pub mod Shell
+pub mod Opening

@@ -1,18 +1,26 @@
 -- What a program has from its shell, and what it ends with.
 -- Assumes nothing.
-use Prim.Native.Nat.{ℕ, _≤_}
+use Prim.Native.Nat.{ℕ, _-_, _≤_, _<_}
 use mathlib.Core.Path.{_≡_}
 use mathlib.Core.Logic.{_⊎_}
 use mathlib.Core.Bool.{Bool, cond}
 use mathlib.Core.List.{List}
-use lib.ListN.{getD}
+use lib.ListN.{length, take, getD}
+use lib.IntN.{ℤ}
 use lib.Dec.{eqb, ltb}
 use Prim.Native.Char.{code}
+use Rattle.libc.specs.Io.{Moved}
+use Rattle.command.specs.declared.Word.{Word}
+use Rattle.command.specs.declared.Seen.{Seen}
+use Rattle.command.specs.Asked.{settledOf, meantOf, stepOf}
 use Rattle.command.specs.declared.Asked.{Asked}
 use Rattle.command.specs.declared.Asked.the-variants.{Nothing, Named, Usage, Number, Unknown, Second}
 use Rattle.command.specs.declared.Asked.the-variants.{Input as StandardInput}
 use Rattle.shell.specs.declared.Got.{Got}
 use Rattle.shell.specs.declared.Got.the-variants.{Read, Failed}
+use Rattle.shell.specs.declared.Opened.{Opened}
+use Rattle.shell.specs.declared.Opened.the-variants.{File}
+use Rattle.shell.specs.declared.Opened.the-variants.{Ended as OpenEnded}
 use Rattle.shell.specs.declared.Input.{Input}
 use Rattle.shell.specs.declared.Input.the-variants.{Bytes, Ended}
 
@@ -26,6 +34,12 @@ refused = 1
 abbrev pub failed : ℕ
 failed = 2
 
+-- one read into what is left of a buffer behind `done`: -1, or at most as many bytes as are left; those before stay
+pub record More (done : ℕ) (entry exit : List ℕ) (r : ℤ) : Type 0 where
+  pub count : Moved (length entry - done) r
+  pub before : take done exit ≡ take done entry
+  pub size : length exit ≡ length entry
+
 -- what was read fits the buffer
 abbrev pub Fitting : Got → ℕ → Type 0
 Fitting (Read n) room = n ≤ room
@@ -35,6 +49,28 @@ Fitting Failed room = Unit
 abbrev pub Taken : Input → ℕ → Type 0
 Taken (Bytes n) room = n ≤ room
 Taken (Ended status) room = status ≡ failed
+
+-- a file was opened whose name fits its buffer; a program whose file cannot be opened ends with 2
+abbrev pub Opens : Opened → ℕ → Type 0
+Opens (File fd name) room = name ≤ room
+Opens (OpenEnded status) room = status ≡ failed
+
+-- what is asked for behind the word at place i, whatever it is
+abbrev pub Took : Seen → ℕ → Seen → Type 0
+Took seen i r = (w : Word) × (r ≡ cond (settledOf (seen .asked)) seen (stepOf seen (meantOf w (seen .ended)) i))
+
+-- a place that is told is that of a word from `first` on
+abbrev pub Within : ℕ → ℕ → ℕ → Type 0
+Within first count i = (first ≤ i) × (i < count)
+
+abbrev pub Among : ℕ → ℕ → Asked → Type 0
+Among first count Nothing = Unit
+Among first count StandardInput = Unit
+Among first count (Named i) = Within first count i
+Among first count Usage = Unit
+Among first count Number = Unit
+Among first count (Unknown i) = Within first count i
+Among first count (Second i) = Within first count i
 
 -- a program that prints ends with 0; or with 2, where that could not be written
 abbrev pub Printed : Input → Type 0

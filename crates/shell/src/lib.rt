@@ -7,7 +7,20 @@ ghost use mathlib.Core.Logic.{_⊎_};
 ghost use Prim.Native.Nat.{_≤_};
 ghost use lib.ListN.{length};
 ghost use Rattle.laws.specs.Filled.{filled};
-ghost use Rattle.shell.specs.Shell.{failed, Fitting, Taken, Begun, Came, endedBy, visible, visibleAt};
+ghost use Rattle.shell.specs.Shell.{
+  failed,
+  More,
+  Fitting,
+  Taken,
+  Opens,
+  Took,
+  Among,
+  Begun,
+  Came,
+  endedBy,
+  visible,
+  visibleAt,
+};
 
 pub const ACCEPTED: u32 = 0;
 
@@ -28,10 +41,17 @@ pub enum Input {
     Ended(u32),
 }
 
+// The file that a word names: its descriptor, and the length of its name; or the program ends here, with a status.
+pub enum Opened {
+    File { fd: i32, name: usize },
+    Ended(u32),
+}
+
 // One read into the rest of the buffer: -1, or how many bytes came. A read that a signal interrupts is tried again; the turns are
 // counted down from a number that no run uses up.
 pub fn read_more(fd: i32, buffer: &mut [u8], done: usize) -> isize
     requires { ⌜ done ≤ length (now buffer) ⌝ }
+    ensures { λ r. ⌜ More done (now (buffer .entry)) (now (buffer .exit)) r ⌝ }
 {
     let mut turns = u64::MAX;
     while turns > 0 {
@@ -132,19 +152,19 @@ pub fn failed(program: &[u8], what: &[u8]) -> u32
 }
 
 // The word at place i, at the front of a buffer, or as much of it as the buffer holds: no path is longer, and the front of a longer word
-// says whether it is an option.
-fn word_at(i: usize, word: &mut [u8]) -> usize
+// says whether it is an option. A word that is missing has no bytes.
+pub fn word_at(i: usize, word: &mut [u8]) -> usize
     ensures { λ r. ⌜ r ≤ length (now (word .exit)) ⌝ }
 {
     let n = os::arg(i, word);
-    if os::errno() != 0 {
+    if os::errno() == libc::ENAMETOOLONG {
         return word.len();
     }
     n
 }
 
 // Says what is wrong with the word at place i, and where to read more.
-fn wrong(program: &[u8], i: usize, what: &[u8]) -> u32
+pub fn misused(program: &[u8], i: usize, what: &[u8]) -> u32
     ensures { λ r. ⌜ r ≡ failed ⌝ }
 {
     let mut word = io::buffer();
@@ -198,25 +218,37 @@ fn read_from(program: &[u8], fd: i32, name: &[u8], buffer: &mut [u8]) -> Input
     }
 }
 
+// Opens the file that the word at place i names. Its name is then at the front of the buffer, as a message shows it.
+pub fn open_named(program: &[u8], i: usize, path: &mut [u8]) -> Opened
+    ensures { λ r. ⌜ Opens r (length (now (path .exit))) ⌝ }
+{
+    let n = os::arg(i, path);
+    if os::errno() != 0 {
+        return Opened::Ended(failed(program, b"the file's name"));
+    }
+    let fd = os::open_read(&path[..n]);
+    make_visible(path);
+    if fd < 0 {
+        return Opened::Ended(failed(program, &path[..n]));
+    }
+    Opened::File { fd, name: n }
+}
+
 // Reads the file that the word at place i names.
 fn read_file(program: &[u8], i: usize, buffer: &mut [u8]) -> Input
     ensures { λ r. ⌜ Taken r (length (now (buffer .entry))) ⌝ }
 {
     let mut path = io::buffer();
-    let n = os::arg(i, &mut path);
-    if os::errno() != 0 {
-        return Input::Ended(failed(program, b"the file's name"));
+    match open_named(program, i, &mut path) {
+        Opened::File { fd, name } => read_from(program, fd, &path[..name], buffer),
+        Opened::Ended(status) => Input::Ended(status),
     }
-    let fd = os::open_read(&path[..n]);
-    make_visible(&mut path);
-    if fd < 0 {
-        return Input::Ended(failed(program, &path[..n]));
-    }
-    read_from(program, fd, &path[..n], buffer)
 }
 
 // What is asked for after the word at place i.
-fn take(seen: Seen, i: usize) -> Seen {
+fn take(seen: Seen, i: usize) -> Seen
+    ensures { λ r. ⌜ Took seen i r ⌝ }
+{
     let asked = seen.asked;
     if command::settled(asked) {
         return seen;
@@ -226,16 +258,25 @@ fn take(seen: Seen, i: usize) -> Seen {
     command::next(seen, command::word_of(&word[..n]), i)
 }
 
-// What all words ask for; the first of them is the program's name.
-pub fn ask(count: usize) -> Asked {
+// What the words from place `first` on ask for.
+pub fn ask_from(first: usize, count: usize) -> Asked
+    ensures { λ r. ⌜ Among first count r ⌝ }
+{
     let mut seen = Seen {
         asked: Asked::Nothing,
         ended: false,
     };
-    for i in 1..count {
+    for i in first..count {
         seen = take(seen, i);
     }
     seen.asked
+}
+
+// What all words ask for; the first of them is the program's name.
+pub fn ask(count: usize) -> Asked
+    ensures { λ r. ⌜ Among 1 count r ⌝ }
+{
+    ask_from(1, count)
 }
 
 // What a program begins with, by what its words ask for.
@@ -254,8 +295,8 @@ pub fn begin_as(
         Asked::Named(i) => read_file(program, i, buffer),
         Asked::Usage => Input::Ended(finish(program, help, b"", ACCEPTED)),
         Asked::Number => Input::Ended(finish(program, version, b"", ACCEPTED)),
-        Asked::Unknown(i) => Input::Ended(wrong(program, i, b": no such option")),
-        Asked::Second(i) => Input::Ended(wrong(program, i, b": a second file")),
+        Asked::Unknown(i) => Input::Ended(misused(program, i, b": no such option")),
+        Asked::Second(i) => Input::Ended(misused(program, i, b": a second file")),
     }
 }
 
@@ -263,5 +304,24 @@ pub fn begin_as(
 pub fn begin(program: &[u8], help: &[u8], version: &[u8], buffer: &mut [u8]) -> Input
     ensures { λ r. ⌜ Came r (length (now (buffer .entry))) ⌝ }
 {
-    begin_as(ask(os::arg_count()), program, help, version, buffer)
+    begin_from(1, program, help, version, buffer)
+}
+
+// The same for the words from place `first` on, behind those that a program reads by itself.
+pub fn begin_from(
+    first: usize,
+    program: &[u8],
+    help: &[u8],
+    version: &[u8],
+    buffer: &mut [u8],
+) -> Input
+    ensures { λ r. ⌜ Came r (length (now (buffer .entry))) ⌝ }
+{
+    begin_as(
+        ask_from(first, os::arg_count()),
+        program,
+        help,
+        version,
+        buffer,
+    )
 }

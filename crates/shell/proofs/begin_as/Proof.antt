@@ -54,20 +54,20 @@ finish-requires-2 c κs = search needs
 enum-known-asked-2 : tie.Need-enum-known-asked-2
 enum-known-asked-2 c = search needs
 
-slice-aggregate-wrong : tie.Need-slice-aggregate-wrong
-slice-aggregate-wrong c = search needs
+slice-aggregate-misused : tie.Need-slice-aggregate-misused
+slice-aggregate-misused c = search needs
 
-wrong-requires : tie.Need-wrong-requires
-wrong-requires c κs = search needs
+misused-requires : tie.Need-misused-requires
+misused-requires c κs = search needs
 
 enum-known-asked-3 : tie.Need-enum-known-asked-3
 enum-known-asked-3 c = search needs
 
-slice-aggregate-wrong-2 : tie.Need-slice-aggregate-wrong-2
-slice-aggregate-wrong-2 c = search needs
+slice-aggregate-misused-2 : tie.Need-slice-aggregate-misused-2
+slice-aggregate-misused-2 c = search needs
 
-wrong-requires-2 : tie.Need-wrong-requires-2
-wrong-requires-2 c κs = search needs
+misused-requires-2 : tie.Need-misused-requires-2
+misused-requires-2 c κs = search needs
 
 same-length : tie.Need-same-length
 same-length c = search needs
@@ -115,13 +115,13 @@ returns-6 : tie.Need-returns-6
 returns-6 c =
     let t = c .before .before .before in
     let a = t .before .before .before .before .before .before .args in
-    subst (λ (x : Asked). Begun x (Ended (c .wrong .result)) (length (a .buffer .now))) (sym (t .asked2 .given .1)) (ap Ended (c .wrong .ensures))
+    subst (λ (x : Asked). Begun x (Ended (c .misused .result)) (length (a .buffer .now))) (sym (t .asked2 .given .1)) (ap Ended (c .misused .ensures))
 
 returns-7 : tie.Need-returns-7
 returns-7 c =
     let t = c .before .before .before in
     let a = t .before .before .before .before .before .before .args in
-    subst (λ (x : Asked). Begun x (Ended (c .wrong2 .result)) (length (a .buffer .now))) (sym (t .asked3 .given .1)) (ap Ended (c .wrong2 .ensures))
+    subst (λ (x : Asked). Begun x (Ended (c .misused2 .result)) (length (a .buffer .now))) (sym (t .asked3 .given .1)) (ap Ended (c .misused2 .ensures))
 
 pub begin-as-spec : {M : Type 1} → statement M
 begin-as-spec =
@@ -142,11 +142,11 @@ begin-as-spec =
     slice-aggregate-finish-2
     finish-requires-2
     enum-known-asked-2
-    slice-aggregate-wrong
-    wrong-requires
+    slice-aggregate-misused
+    misused-requires
     enum-known-asked-3
-    slice-aggregate-wrong-2
-    wrong-requires-2
+    slice-aggregate-misused-2
+    misused-requires-2
     same-length
     returns
     same-length-2

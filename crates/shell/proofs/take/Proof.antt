@@ -1,16 +1,32 @@
--- `shell::take` is safe: the word's length is at most its buffer's.
+-- `shell::take` meets its contract: what is settled stays, and else the word that was read decides.
 -- Assumes nothing.
+use Prim.Native.Nat.{ℕ}
+use mathlib.Core.Path.{_≡_, sym, _∙_}
+use mathlib.Core.Bool.{true, false}
 use native.Mathlib.Omega.{arith}
 use lib.ListN.{length-take}
 use borrow.Author.Needs.{needs}
+use Rattle.command.specs.declared.Word.{Word}
+use Rattle.command.specs.declared.Word.the-variants.{File}
+use Rattle.command.specs.declared.Seen.{Seen}
+use Rattle.command.specs.Asked.{settledOf, meantOf, stepOf}
+use Rattle.shell.specs.Shell.{Took}
 use Rattle.shell.proofs.take.Statement.{statement}
 use Rattle.shell.proofs.take.Tie as tie
+
+stays : (seen : Seen) (i : ℕ) → settledOf (seen .asked) ≡ true → Took seen i seen
+stays seen i e = (File, simp e)
+
+goes-on : (seen : Seen) (i : ℕ) (w : Word) (r : Seen) → settledOf (seen .asked) ≡ false → r ≡ stepOf seen (meantOf w (seen .ended)) i → Took seen i r
+goes-on seen i w r e f = (w, simp e f)
 
 settled-requires : tie.Need-settled-requires
 settled-requires c κs = search needs
 
 returns : tie.Need-returns
-returns c = search needs
+returns c =
+    let w = c .before in
+    stays (w .before .args .seen) (w .before .args .i) (sym (w .settled .ensures) ∙ c .if1 .taken)
 
 buffer-requires : tie.Need-buffer-requires
 buffer-requires c κs = search needs
@@ -34,7 +50,10 @@ next-requires : tie.Need-next-requires
 next-requires c κs = search needs
 
 returns-2 : tie.Need-returns-2
-returns-2 c = search needs
+returns-2 c =
+    let e = c .before .before .before .before .before .before .before in
+    let w = e .before in
+    goes-on (w .before .args .seen) (w .before .args .i) (c .before .word-of .result) (c .next .result) (sym (w .settled .ensures) ∙ e .if1 .left) (c .next .ensures)
 
 pub take-spec : {M : Type 1} → statement M
 take-spec =

@@ -1,10 +1,10 @@
--- `shell::wrong` meets its contract: the word's length is at most its buffer's.
+-- `shell::misused` meets its contract: the word's length is at most its buffer's.
 -- Assumes nothing.
 use native.Mathlib.Omega.{arith}
 use lib.ListN.{length-take}
 use borrow.Author.Needs.{needs}
-use Rattle.shell.proofs.wrong.Statement.{statement}
-use Rattle.shell.proofs.wrong.Tie as tie
+use Rattle.shell.proofs.misused.Statement.{statement}
+use Rattle.shell.proofs.misused.Tie as tie
 
 buffer-requires : tie.Need-buffer-requires
 buffer-requires c κs = search needs
@@ -60,8 +60,8 @@ write-whole-requires-7 c κs = search needs
 returns : tie.Need-returns
 returns c = search needs
 
-pub wrong-spec : {M : Type 1} → statement M
-wrong-spec =
+pub misused-spec : {M : Type 1} → statement M
+misused-spec =
     tie.close
     (tie.spec
     buffer-requires

@@ -1,4 +1,4 @@
--- `shell::begin` meets its contract: what came fits the buffer, or the program ends with one of two statuses, whatever is asked for.
+-- `shell::begin_from` meets its contract: what came fits the buffer, or the program ends with one of two statuses, whatever is asked for.
 -- Assumes nothing.
 use Prim.Native.Nat.{ℕ}
 use mathlib.Core.Path.{_≡_, refl, sym, subst}
@@ -10,8 +10,8 @@ use Rattle.shell.specs.declared.Input.{Input}
 use Rattle.shell.specs.declared.Input.the-variants.{Bytes, Ended}
 use Rattle.shell.specs.Shell.{failed, Taken, Printed, Begun, Came}
 use borrow.Author.Needs.{needs}
-use Rattle.shell.proofs.begin.Statement.{statement}
-use Rattle.shell.proofs.begin.Tie as tie
+use Rattle.shell.proofs.begin_from.Statement.{statement}
+use Rattle.shell.proofs.begin_from.Tie as tie
 
 taken : (r : Input) (room : ℕ) → Taken r room → Came r room
 taken (Bytes n) room h = h
@@ -36,8 +36,8 @@ came (Second i) r room h = ended r room h
 arg-count-requires : tie.Need-arg-count-requires
 arg-count-requires c κs = search needs
 
-ask-requires : tie.Need-ask-requires
-ask-requires c κs = search needs
+ask-from-requires : tie.Need-ask-from-requires
+ask-from-requires c κs = search needs
 
 begin-as-requires : tie.Need-begin-as-requires
 begin-as-requires c κs = search needs
@@ -48,8 +48,8 @@ same-length c = search needs
 returns : tie.Need-returns
 returns c =
     let w = c .before .before in
-    came (w .before .before .ask .result) (w .begin-as .result) _ (w .begin-as .ensures)
+    came (w .before .before .ask-from .result) (w .begin-as .result) _ (w .begin-as .ensures)
 
-pub begin-spec : {M : Type 1} → statement M
-begin-spec =
-    tie.close (tie.spec arg-count-requires ask-requires begin-as-requires same-length returns)
+pub begin-from-spec : {M : Type 1} → statement M
+begin-from-spec =
+    tie.close (tie.spec arg-count-requires ask-from-requires begin-as-requires same-length returns)
