@@ -234,15 +234,37 @@ pub fn open_named(program: &[u8], i: usize, path: &mut [u8]) -> Opened
     Opened::File { fd, name: n }
 }
 
-// Reads the file that the word at place i names.
+// The room for a name in a buffer: no path is longer.
+fn name_room(room: usize) -> usize
+    ensures { λ r. ⌜ r ≤ room ⌝ }
+{
+    if libc::PATH_MAX < room {
+        libc::PATH_MAX
+    } else {
+        room
+    }
+}
+
+// Reads the file that the word at place i names. The buffer has room for the name while the file is opened, so that no second one stands on
+// the stack then; the name is fetched again for what is said where the read fails.
 fn read_file(program: &[u8], i: usize, buffer: &mut [u8]) -> Input
     ensures { λ r. ⌜ Taken r (length (now (buffer .entry))) ⌝ }
 {
-    let mut path = io::buffer();
-    match open_named(program, i, &mut path) {
-        Opened::File { fd, name } => read_from(program, fd, &path[..name], buffer),
+    let most = name_room(buffer.len());
+    match open_named(program, i, &mut buffer[..most]) {
+        Opened::File { fd, name: _ } => read_open(program, fd, i, buffer),
         Opened::Ended(status) => Input::Ended(status),
     }
+}
+
+// Reads a file that is open, and that the word at place i names.
+fn read_open(program: &[u8], fd: i32, i: usize, buffer: &mut [u8]) -> Input
+    ensures { λ r. ⌜ Taken r (length (now (buffer .entry))) ⌝ }
+{
+    let mut path = io::buffer();
+    let n = word_at(i, &mut path);
+    make_visible(&mut path);
+    read_from(program, fd, &path[..n], buffer)
 }
 
 // What is asked for after the word at place i.

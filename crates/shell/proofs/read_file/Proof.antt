@@ -1,17 +1,23 @@
--- `shell::read_file` meets its contract: the name's length fits its buffer, and a file that was not opened has its status.
+-- `shell::read_file` meets its contract: the buffer is as long as it was where the file is open, and a file that was not opened has its status.
 -- Assumes nothing.
+use Prim.Native.Nat.{ℕ}
+use mathlib.Core.Path.{subst}
 use native.Mathlib.Omega.{arith}
 use lib.ListN.{length-take}
-use Rattle.shell.specs.Opening.{name-fits, not-opened}
+use Rattle.shell.specs.Shell.{Taken}
+use Rattle.shell.specs.Opening.{not-opened}
 use borrow.Author.Needs.{needs}
 use Rattle.shell.proofs.read_file.Statement.{statement}
 use Rattle.shell.proofs.read_file.Tie as tie
 
-buffer-requires : tie.Need-buffer-requires
-buffer-requires c κs = search needs
+name-room-requires : tie.Need-name-room-requires
+name-room-requires c κs = search needs
+
+slice-relend-prefix-open-named : tie.Need-slice-relend-prefix-open-named
+slice-relend-prefix-open-named c = search needs
 
 slice-aggregate-open-named : tie.Need-slice-aggregate-open-named
-slice-aggregate-open-named c = search needs
+slice-aggregate-open-named c = simp length-take (omega arith)
 
 open-named-requires : tie.Need-open-named-requires
 open-named-requires c κs = search needs
@@ -19,20 +25,8 @@ open-named-requires c κs = search needs
 enum-known-fd : tie.Need-enum-known-fd
 enum-known-fd c = search needs
 
-array-share-prefix-path : tie.Need-array-share-prefix-path
-array-share-prefix-path c =
-    let k = c .before .fd .given in
-    let o = c .before .before .before .before .open-named in
-    name-fits (o .result) (k .0 .0) (k .0 .1 .0) _ (o .ensures) (k .1)
-
-slice-aggregate-read-from : tie.Need-slice-aggregate-read-from
-slice-aggregate-read-from c =
-    let k = c .before .before .fd .given in
-    let o = c .before .before .before .before .before .open-named in
-    simp length-take (omega (arith, name-fits (o .result) (k .0 .0) (k .0 .1 .0) _ (o .ensures) (k .1)))
-
-read-from-requires : tie.Need-read-from-requires
-read-from-requires c κs = search needs
+read-open-requires : tie.Need-read-open-requires
+read-open-requires c κs = search needs
 
 enum-known-status : tie.Need-enum-known-status
 enum-known-status c = search needs
@@ -41,26 +35,32 @@ same-length : tie.Need-same-length
 same-length c = search needs
 
 returns : tie.Need-returns
-returns c = search needs
+returns c =
+    let w = c .before .before in
+    let b = w .before .before .before .before .before .before in
+    subst (λ (n : ℕ). Taken (w .read-open .result) n) (b .buffer .given .1) (w .read-open .ensures)
+
+same-length-2 : tie.Need-same-length-2
+same-length-2 c = search needs
 
 returns-2 : tie.Need-returns-2
 returns-2 c =
     let k = c .before .status .given in
-    let o = c .before .before .before .before .open-named in
+    let o = c .before .before .before .before .before .open-named in
     not-opened (o .result) (k .0 .0) _ (o .ensures) (k .1)
 
 pub read-file-spec : {M : Type 1} → statement M
 read-file-spec =
     tie.close
     (tie.spec
-    buffer-requires
+    name-room-requires
+    slice-relend-prefix-open-named
     slice-aggregate-open-named
     open-named-requires
     enum-known-fd
-    array-share-prefix-path
-    slice-aggregate-read-from
-    read-from-requires
+    read-open-requires
     enum-known-status
     same-length
     returns
+    same-length-2
     returns-2)
