@@ -291,7 +291,7 @@ BOOKS = {
 }
 # the book, its number and place, and the words for them
 REFUSED = {
-    "1-too-long": (sized(60_001), "1 at 0", "the book has more than 60,000 bytes"),
+    "1-too-long": (sized(60_001), "1 at 0", "more than 60,000 bytes"),
     "2-cut": (terms()[:-1], "2 at 33", "the book ends before the end of the tier 2 edge V"),
     "3-tag": (terms() + field("Y", ""), "3 at 41", "a byte that is no tag, or that follows Z"),
     "3-no-decimals": (listing(x=None), "3 at 4", "a tag that does not belong here: the settlement price S"),

@@ -21,10 +21,10 @@ extern "C" {
 #endif
 
 /* The version. CHANGELOG.md of the source tree says what changed with each. */
-#define FRUNDAVEL_VERSION "0.10.0"
+#define FRUNDAVEL_VERSION "0.10.1"
 #define FRUNDAVEL_VERSION_MAJOR 0
 #define FRUNDAVEL_VERSION_MINOR 10
-#define FRUNDAVEL_VERSION_PATCH 0
+#define FRUNDAVEL_VERSION_PATCH 1
 
 /* A book has at most so many bytes; a longer one is refused with number 1. Reading one byte more than this is enough to see it. */
 #define FRUNDAVEL_LONGEST_BOOK 60000
@@ -138,11 +138,13 @@ frundavel_answer frundavel_allot(const uint8_t *book, size_t size, uint8_t *repo
  * Puts the words for a number at the front of the `room` bytes lent at `words`, with no zero byte after them: `a comma in the loss edge L`.
  *
  * - `number` and `place` are those that a call answered, and `book` is the book that it was given: the byte at the place says the field.
- *   With another book, or a place past its end, the words may be of another field or of none.
+ *   With another book, or a place past its end, the words may be of another field or of none. A number from 14 on names no field, so that
+ *   no book is needed: a null pointer with length 0.
  * - The answer is number 0, place 0 and the length of the words; or 11 with the length needed as place, length 0 and no byte altered,
  *   where the words are longer than the room. Bytes of the buffer after the words are unaltered.
- * - Every number has words: 0 is `accepted`, and one that no call answers is `no such number`. They are ASCII, in English, of one line
- *   without a line feed. Later versions may put other words; a program that has to decide looks at the number.
+ * - Every number has words, those of lists and of cutting back too: 0 is `accepted`, and one that no call answers is `no such number`. They
+ *   are ASCII, in English, of one line without a line feed. Later versions may put other words; a program that has to decide looks at the
+ *   number.
  * - Of pointers, threads and what is called the same holds as above. `book` and `words` must not overlap. It takes at most 1,536 bytes of
  *   the calling thread's stack (measured, and held by a test).
  */
@@ -202,10 +204,10 @@ enum frundavel_cutback_number {
  *         44  a seat has more than 1,000,000 lots; there are more sizes than lots                         0
  *         11  there are fewer places than seats                                                           the number of places needed
  *
- * - Any bytes and any numbers may be given. Bytes behind the last code are not looked at. frundavel_reason has no words for 40 to 44.
+ * - Any bytes and any numbers may be given. Bytes behind the last code are not looked at.
  * - The time grows with the square of the number of seats given: each code is held against those behind it.
- * - `cuts` must overlap no other part. Of memory and threads the same holds as above. A thread that does nothing but this call took 4,728
- *   bytes of stack, 4,464 of them its own (measured once on x86-64; no test holds it).
+ * - `cuts` must overlap no other part. Of memory and threads the same holds as above. It takes at most 1,024 bytes of the calling thread's
+ *   stack (measured, and held by a test).
  */
 frundavel_answer frundavel_cutback(const uint8_t *kind, size_t kind_size, const uint8_t *metal, size_t metal_size, uint64_t grams,
                                    const uint8_t *codes, size_t codes_size, const uint64_t *sizes, size_t sizes_count,
@@ -220,8 +222,9 @@ frundavel_answer frundavel_cutback(const uint8_t *kind, size_t kind_size, const 
  * - 30 at 0: more than 2,001 line feeds. Then the first bad line decides, its place the day's number, 0 for the first line: 33, not of its form; then
  *   31, a zero price or zero open interest. 11, last of all: the run has fewer places than there are days; place is the number of places needed.
  * - Refused: length 0, and no place of the run is altered.
- * - There is no limit in bytes. frundavel_reason has no words for these numbers.
- * - What is said above of pointers, memory and threads holds here too.
+ * - There is no limit in bytes.
+ * - What is said above of pointers, memory and threads holds here too. It takes at most 1,024 bytes of the calling thread's stack (measured,
+ *   and held by a test).
  */
 frundavel_answer frundavel_moves(const uint8_t *list, size_t size, uint8_t *spans, size_t places);
 
@@ -249,8 +252,9 @@ enum frundavel_step {
  * - Accepted: number 0, place 0, and length is the number of days. The rest of the run is unaltered.
  * - 30, 33, 31 and 11 as of frundavel_moves; for one line 33 comes first, then 31, and then 32, another letter as the mark.
  * - Refused: length 0, and no place of the run is altered.
- * - There is no limit in bytes. frundavel_reason has no words for these numbers.
- * - What is said above of pointers, memory and threads holds here too.
+ * - There is no limit in bytes.
+ * - What is said above of pointers, memory and threads holds here too. It takes at most 1,024 bytes of the calling thread's stack (measured,
+ *   and held by a test).
  */
 frundavel_answer frundavel_ladder(const uint8_t *list, size_t size, uint64_t *steps, size_t places);
 

@@ -1,6 +1,6 @@
 /*
- * Asks frundavel_reason for the words of every number, at every byte and at a place past the end, and prints them: NUMBER BYTE WORDS, with
- * `none` for the byte past the end. Each is asked for in every room from 0 to FRUNDAVEL_WORDS, and what it answers and each byte of the
+ * Asks frundavel_reason for the words of every number, at every byte, at a place past the end and at place 0 of an empty book, and prints
+ * them: NUMBER BYTE WORDS, with `none` for the byte past the end, and `first` at place 0. Each is asked for in every room from 0 to FRUNDAVEL_WORDS, and what it answers and each byte of the
  * buffer are held to the header. What must be printed is said by wanted.py.
  */
 #include <stdio.h>
@@ -72,14 +72,15 @@ static void ask(uint64_t number, uint64_t place, const uint8_t *book, size_t siz
 
 int main(void)
 {
-    static const uint64_t far[] = {14, 255, 256, 260, UINT64_C(1) << 32, (UINT64_C(1) << 32) + 4, UINT64_C(1) << 63, UINT64_MAX};
+    enum { EACH = 50 };
+    static const uint64_t far[] = {255, 256, 260, UINT64_C(1) << 32, (UINT64_C(1) << 32) + 4, UINT64_C(1) << 63, UINT64_MAX};
     uint8_t book[3] = {'D', 0, 'D'};
     char shown[8];
     size_t i, j;
     unsigned byte;
 
-    for (i = 0; i < 14 + sizeof far / sizeof far[0]; i++) {
-        uint64_t number = i < 14 ? i : far[i - 14];
+    for (i = 0; i < EACH + sizeof far / sizeof far[0]; i++) {
+        uint64_t number = i < EACH ? i : far[i - EACH];
 
         for (byte = 0; byte < 256; byte++) {
             book[1] = (uint8_t)byte;
@@ -88,7 +89,7 @@ int main(void)
         }
         for (j = 0; j < sizeof none / sizeof none[0]; j++)
             ask(number, none[j], book, sizeof book, "none");
-        ask(number, 0, NULL, 0, "none");
+        ask(number, 0, NULL, 0, "first");
     }
     return fflush(stdout) == 0 && !ferror(stdout) ? 0 : 1;
 }

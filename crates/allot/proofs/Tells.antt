@@ -23,7 +23,7 @@ use Rattle.allot.specs.Told.{statusOf, saidOf, Ends, Exit}
 -- a line has room
 pub short : (n place f : ℕ) → Fits w64 n → Fits w64 place → length (said (bytes "allot") n place f) ≤ 256
 short n place f h g =
-    omega (arith, said-length (bytes "allot") n place f, reason-short n f, digits-length-20 n (omega (arith, h)), digits-length-20 place (omega (arith, g)))
+    omega (arith, said-length (bytes "allot") n place f, reason-short n place f, digits-length-20 n (omega (arith, h)), digits-length-20 place (omega (arith, g)))
 
 -- the line of a refusal
 module _ (s e x : List ℕ) (n place r : ℕ) where

@@ -3,11 +3,11 @@
 use Prim.Native.Nat.{ℕ, _-_, _*_, _/_, _≤_, _<_, min}
 use mathlib.Core.Path.{_≡_, refl, sym, ap, ap₂, subst, _∙_}
 use mathlib.Core.List.{List, _++_, map}
-use mathlib.Core.Bool.{Bool, true, false}
+use mathlib.Core.Bool.{true, false}
 use native.Mathlib.Omega.{arith}
 use lib.ListN.{length, take, drop}
 use lib.Dec.{ltb, eqb}
-use borrow.Author.Tests.{lt-ltb, le-ltb, eqb-false, ltb-false}
+use borrow.Author.Tests.{le-ltb, eqb-false, ltb-false}
 use Rattle.rules.specs.Refusal as refusal
 use Rattle.rules.specs.Text.{bytes}
 use Rattle.rules.specs.Codes.{same}
@@ -24,7 +24,7 @@ use Rattle.allotment.specs.Answering.{refused-so, too-small}
 use Rattle.cutback.specs.declared.walk.Read.{Read}
 use Rattle.cutback.specs.declared.seats.Total.{Total}
 use Rattle.cutback.specs.Limit.{byMetal, tons, mayStay}
-use Rattle.cutback.specs.Judge.{Verdict, Refused, Cut, gramsBad, codesBad, countBad, lotsBad, judge, answerOf}
+use Rattle.cutback.specs.Judge.{Verdict, Refused, Cut, gramsBad, codesBad, countBad, judge, answerOf}
 use Rattle.cutback.specs.Walk.{Counted, early}
 use Rattle.cutback.specs.Keyed.{cutAt, Held, Summed}
 use Rattle.cutback.proofs.Codes.{good-at, key-at}

@@ -1,13 +1,13 @@
 -- The cuts by keys are those by codes: the seats at their places, and keys in the order of the codes.
 -- Assumes nothing.
-use Prim.Native.Nat.{ℕ, zero, suc, _-_, _≤_, _<_, min}
+use Prim.Native.Nat.{ℕ, zero, suc, _-_, _<_, min}
 use mathlib.Core.Path.{_≡_, refl, sym, ap, ap₂, _∙_}
 use mathlib.Core.List.{List, [], _∷_, map, map-map}
-use mathlib.Core.Bool.{Bool, true, false, cond, not, _&&_, _||_}
+use mathlib.Core.Bool.{Bool, true, cond, _&&_, _||_}
 use native.Mathlib.Omega.{arith}
-use lib.ListN.{length, getD, take}
+use lib.ListN.{length, getD}
 use lib.Dec.{ltb, eqb}
-use Rattle.rules.specs.Codes.{isCode, smaller}
+use Rattle.rules.specs.Codes.{isCode}
 use Rattle.rules.specs.Division.{sumOf}
 use Rattle.laws.specs.Sums.{upTo, map-upTo, sum-index, upTo-cong}
 use Rattle.laws.specs.Indices.{map-below}

@@ -5,4 +5,3 @@ pub mod Lines
 pub mod Judge
 pub mod Walk
 pub mod Keyed
-pub mod Words

@@ -11,9 +11,7 @@ ghost use Rattle.cutback.specs.Limit.{byMetal, tons};
 ghost use Rattle.cutback.specs.Lines.{codesIn, codesAhead, codesFrom};
 ghost use Rattle.cutback.specs.Judge.{gramsBad, countBad, judge, answerOf};
 ghost use Rattle.cutback.specs.Walk.{early};
-ghost use Rattle.writing.specs.Written.{Room, Wrote};
 ghost use Rattle.cutback.specs.Keyed.{cutAt, Held};
-ghost use Rattle.cutback.specs.Words.{textLine, words};
 
 mod seats;
 mod walk;
@@ -195,33 +193,4 @@ pub fn cut_lines(
 {
     let none = [0u64; 0];
     cut_in(true, kind, metal, grams, lines, &none, lots, cuts)
-}
-
-// The line of a number among the words.
-fn text_line(number: u64) -> usize
-    ensures { λ r. ⌜ r ≡ textLine number ⌝ }
-{
-    if number == refusal::TOO_LONG {
-        return 5;
-    }
-    if number < UNKNOWN {
-        return 6;
-    }
-    if BAD_LOTS < number {
-        return 6;
-    }
-    (number - UNKNOWN) as usize
-}
-
-// The words for a number of a refusal.
-pub fn put_words(out: &mut [u8], at: usize, number: u64) -> usize
-    requires { ⌜ Room at (words number) (now out) ⌝ }
-    ensures { λ r. ⌜ Wrote at (words number) (now (out .entry)) (now (out .exit)) r ⌝ }
-{
-    reasons::put_line(
-        out,
-        at,
-        b"the customer's type or the metal is unknown\nthe grams in one lot are not a whole figure from 1 to 1,000,000\na seat code is malformed or given twice\nno seat, or more than four\nthe lots of a seat are not a whole figure from 0 to 1,000,000\nthe input has more than 60,000 bytes\nno such number\n",
-        text_line(number),
-    )
 }

@@ -1,7 +1,7 @@
 -- "the contract determines all": any two results that a contract of request [13] allows are equal, and so is all that is lent. The statement
 -- is that of crates/promises (Determined.antt there), and `AsksNothing` too.
 -- Assumes nothing.
-use Prim.Native.Nat.{ℕ, _-_, _≤_}
+use Prim.Native.Nat.{ℕ, _≤_}
 use mathlib.Core.Path.{_≡_, refl, sym, ap, _∙_}
 use mathlib.Core.List.{List}
 use native.Mathlib.Omega.{arith}
@@ -59,9 +59,6 @@ cut κs a r q s t e f = let w = same-answer _ r q _ _ _ e f in (w .0, ap (λ c. 
 
 pub cut-lines : Determined cutback.cut_lines.ended cutback.cut_lines.Reads.Learnt
 cut-lines κs a r q s t e f = let w = same-answer _ r q _ _ _ e f in (w .0, ap (λ c. (tt, (tt, (tt, (tt, (tt, (c, tt))))))) (w .1))
-
-pub put-words : Determined cutback.put_words.ended cutback.put_words.Reads.Learnt
-put-words κs a r q s t e f = wrote e f
 
 -- the call for C, which asks for nothing
 pub frundavel-cutback : Determined frundavel.frundavel_cutback.ended frundavel.frundavel_cutback.Reads.Learnt

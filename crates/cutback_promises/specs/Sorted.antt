@@ -1,9 +1,9 @@
 -- The seats in their order of cutting: sorted by insertion, with every sum as it was; and what is cut of sorted seats in all.
 -- Assumes nothing.
-use Prim.Native.Nat.{ℕ, _+_, _-_, _≤_, _<_, min}
-use mathlib.Core.Path.{_≡_, refl, sym, ap, ap₂, _∙_}
+use Prim.Native.Nat.{ℕ, _+_, _-_, _≤_, min}
+use mathlib.Core.Path.{_≡_, refl, sym, ap, _∙_}
 use mathlib.Core.List.{List, [], _∷_, List·Memᴰ, List·Memᴰ·head, List·Memᴰ·tail}
-use mathlib.Core.Bool.{Bool, true, false, cond, _||_, not, false≢true}
+use mathlib.Core.Bool.{true, false, cond, _||_, not, false≢true}
 use native.Mathlib.Omega.{arith}
 use Rattle.rules.specs.Codes.{isCode, same, smaller}
 use Rattle.rules.specs.Division.{sumOf, oneIf}

@@ -1,22 +1,22 @@
 -- What is told of an input, by its verdict.
 -- Assumes nothing.
-use Prim.Native.Nat.{ℕ, zero, suc, _+_, _-_, _*_, _≤_, _<_, min}
+use Prim.Native.Nat.{ℕ, zero, suc, _+_, _-_, _*_, _≤_}
 use mathlib.Core.Path.{_≡_, refl, sym, ap, ap₂, subst, _∙_}
-use mathlib.Core.List.{List, [], _∷_, _++_, map}
+use mathlib.Core.List.{List, [], _∷_, map}
 use mathlib.Core.Bool.{Bool, true, false, not, _||_, or-true}
 use mathlib.Core.Logic.{⊎-elim}
 use native.Mathlib.Omega.{arith}
-use native.Mathlib.Nat.{zero-add}
-use lib.ListN.{length, getD, take, drop, replicate, length-append, length-take, length-drop, length-map}
+use lib.ListN.{length, take, drop, replicate, length-append, length-take, length-map}
 use lib.Seq.{take-all, take-append-seam}
 use lib.Dec.{ltb, eqb}
 use lib.IntN.{pos}
 use mir.Syntax.{w32, w64}
 use mir.Val.{Fits, SFits, toZ}
-use borrow.Author.Tests.{le-ltb, ltb-true, ltb-false}
+use borrow.Author.Tests.{le-ltb, ltb-false}
 use Rattle.rules.specs.Book.{Refused as Refused01}
-use Rattle.rules.specs.Report.{digits, listingOf}
+use Rattle.rules.specs.Report.{listingOf}
 use Rattle.rules.specs.Answer.{Answer as Answer01}
+use Rattle.rules.specs.Text.{bytes}
 use Rattle.rules.specs.Codes.{isCode}
 use Rattle.rules.specs.Opening.{upToBlank}
 use Rattle.laws.specs.ByTest.{by-test, not-either}
@@ -24,6 +24,8 @@ use Rattle.laws.specs.Digits.{digits-length-7, digits-length-20}
 use Rattle.laws.specs.CodeLength.{code-length}
 use Rattle.printing.specs.Printed.{refusal-length}
 use Rattle.reasons.specs.Lines.{behindLines, firstLine, lineOf}
+use Rattle.reasons.specs.Reason.{noTag, said}
+use Rattle.reasons.specs.Sizes.{reason-short, said-length}
 use Rattle.reasons.proofs.Texts.{line-part, all-left}
 use Rattle.allotment.specs.declared.Answer.{Answer}
 use Rattle.allotment.specs.Answered.{Answered}
@@ -31,11 +33,10 @@ use Rattle.cutback.specs.Limit.{tons, mayStay}
 use Rattle.cutback.specs.Seats.{Seat, seatsOf, cutOf, excess, cutsOf}
 use Rattle.cutback.specs.Lines.{linesOf, codesAhead}
 use Rattle.cutback.specs.Judge.{Verdict, Refused, Cut, again, codesBad, refuse, gramsBad, countBad, lotsBad, judge, answerOf}
-use Rattle.cutback.specs.Words.{words, words-short}
 use Rattle.cutback.proofs.Codes.{good-at}
 use Rattle.cutback.proofs.Lots.{all-small}
 use Rattle.cutback.proofs.Judging.{Accepted, accepted}
-use Rattle.cutting.specs.Told.{gramsOf, lotsOf, seats, read, verdict, row, rows, said, statusOf, Ends, Exit}
+use Rattle.cutting.specs.Told.{gramsOf, lotsOf, seats, read, verdict, row, rows, statusOf, Ends, Exit}
 use Rattle.cutting.proofs.Rows.{row-length}
 
 -- more lots than four are never looked at
@@ -180,11 +181,9 @@ module _ (input cuts : List ℕ) (r : Answer) where
       go (Cut told) e a = cut-so told e a .1
 
 -- the line of a refusal
-pub said-length : (n : ℕ) → length (said n) ≡ 25 + length (digits n) + length (words n)
-said-length n = simp length-append (omega arith)
-
-pub said-fits : (n : ℕ) → Fits w64 n → length (said n) ≤ 256
-said-fits n h = omega (arith, said-length n, words-short n, digits-length-20 n (omega (arith, h)))
+pub said-fits : (n : ℕ) → Fits w64 n → length (said (bytes "cutback") n 0 noTag) ≤ 256
+said-fits n h =
+    omega (arith, said-length (bytes "cutback") n 0 noTag, reason-short n 0 noTag, digits-length-20 n (omega (arith, h)), digits-length-7 0 (omega arith))
 
 pub refusal-fits : (n : ℕ) → Fits w64 n → length (listingOf (Refused01 n 0)) ≤ 128
 refusal-fits n h = omega (arith, refusal-length n 0, digits-length-20 n (omega (arith, h)), digits-length-7 0 (omega arith))

@@ -8,7 +8,6 @@ use mathlib.Core.Logic.{_⊎_}
 use lib.ListN.{length}
 use lib.Dec.{ltb}
 use lib.IntN.{ℤ, pos, negsuc}
-use Rattle.rules.specs.declared.Form.{Form}
 use Rattle.rules.specs.declared.Figure.{Figure}
 use Rattle.rules.specs.declared.Figure.the-variants.{Value, Comma, Malformed}
 use Rattle.rules.specs.Text.{bytes}
@@ -19,9 +18,9 @@ use Rattle.rules.specs.Opening.{afterBlank}
 use Rattle.rules.specs.Book.{Refused as Refused01}
 use Rattle.rules.specs.Report.{digits, listingOf}
 use Rattle.reasons.specs.Lines.{behindLines, lineOf}
+use Rattle.reasons.specs.Reason.{noTag, said}
 use Rattle.cutback.specs.Lines.{linesOf, codesAhead}
 use Rattle.cutback.specs.Judge.{Verdict, Refused, Cut, judge}
-use Rattle.cutback.specs.Words.{words}
 use Rattle.shell.specs.Shell as shell
 
 -- "Grams and lots are figures of 1 to 7 digits without a leading zero (`0` is good); what is no such figure is 41 for grams, 44 for lots."
@@ -64,11 +63,8 @@ listing input (Refused n) = listingOf (Refused01 n 0)
 listing input (Cut cuts) = rows (codesAhead (seats input)) cuts
 
 -- on standard error: the line of a refusal, and nothing where there are cuts
-abbrev pub said : ℕ → List ℕ
-said n = (bytes "cutback: refused " ++ digits n) ++ (bytes " at 0: " ++ (words n ++ bytes "\n"))
-
 abbrev pub saidOf : Verdict → List ℕ
-saidOf (Refused n) = said n
+saidOf (Refused n) = said (bytes "cutback") n 0 noTag
 saidOf (Cut cuts) = []
 
 abbrev pub statusOf : Verdict → ℕ

@@ -14,13 +14,11 @@ ghost use mathlib.Core.List.{map};
 ghost use Prim.Native.Nat.{_+_, _≤_, min};
 ghost use lib.ListN.{length, take};
 ghost use Rattle.rules.specs.Opening.{upToBlank};
-ghost use Rattle.rules.specs.Report.{digits};
-ghost use Rattle.reasons.specs.Lines.{lineOf};
 ghost use Rattle.writing.specs.Written.{Room, Wrote};
 ghost use Rattle.allotment.specs.Answered.{Answered, Listed};
 ghost use Rattle.cutback.specs.Lines.{linesOf, codesAhead};
 ghost use Rattle.cutback.specs.Judge.{answerOf};
-ghost use Rattle.cutting.specs.Told.{orElse, gramsOf, lotsOf, read, verdict, row, rows, listing, said, saidOf, statusOf, Ends, Exit};
+ghost use Rattle.cutting.specs.Told.{orElse, gramsOf, lotsOf, read, verdict, row, rows, listing, saidOf, statusOf, Ends, Exit};
 
 // One byte more than an input may have, so that a longer one is told.
 const MOST_READ: usize = rules::LONGEST_BOOK + 1;
@@ -147,17 +145,6 @@ fn put_rows(out: &mut [u8], lines: &[u8], cuts: &[u64]) -> usize
     here
 }
 
-// The words that the program says of a refusal.
-fn put_said(words: &mut [u8], number: u64) -> usize
-    requires { ⌜ Room 0 (said number) (now words) ⌝ }
-    ensures { λ r. ⌜ Wrote 0 (said number) (now (words .entry)) (now (words .exit)) r ⌝ }
-{
-    let place = put_worded(words, 0, b"cutback: refused ", number);
-    let why = put_bytes(words, place, b" at 0: ");
-    let end = cutback::put_words(words, why, number);
-    put_byte(words, end, b'\n')
-}
-
 // What the lines come to, with the cuts in four lent places.
 fn read_input(input: &[u8], cuts: &mut [u64]) -> Answer
     ensures { λ r. ⌜ Answered (answerOf (length (now (cuts .entry))) (read (now (input .entry)))) r (now (cuts .entry)) (now (cuts .exit)) ⌝ }
@@ -209,7 +196,7 @@ fn tell(input: &[u8], out: &mut [u8], words: &mut [u8]) -> Told
         return Told {
             status: shell::REFUSED,
             listed: put_refusal(out, number, 0),
-            said: put_said(words, number),
+            said: reasons::put_said(words, b"cutback", number, 0, reasons::NO_TAG),
         };
     }
     let count = answer.length as usize;
@@ -242,7 +229,7 @@ pub extern "C" fn frundavel_main() -> i32
     match shell::begin(
         b"cutback",
         b"Usage: cutback [FILE]\nPrints the lots cut at each seat of a customer over the position limit, from\nthe lines in FILE, or on standard input where there is no FILE or it is -:\nthe type (corporate or individual), the metal (gold or silver), the grams in\none lot, and for each seat its code, a blank and its lots.\n\n  --help     print this and end\n  --version  print the version and end\n\nThe status is 0 where the lines are accepted, 1 where they are refused, and 2\nwhere the words are wrong or a read or a write fails.\n",
-        b"cutback 0.10.0\n",
+        b"cutback 0.10.1\n",
         &mut buffer,
     ) {
         Input::Bytes(n) => answer(&buffer[..n]) as i32,

@@ -13,7 +13,6 @@ use Rattle.watch.specs.Answered.{Answered}
 use Rattle.days.proofs as days
 use Rattle.watch.proofs as watch
 use Rattle.locks.proofs as locks
-use Rattle.saying.proofs as saying
 
 abbrev pub Contract : Ended → Type 1
 Contract T = (κs : Lfts (T .signature .lifetimes)) → Args (T .signature) κs → Res (T .signature) κs → AtExit T κs → Type 0
@@ -59,10 +58,6 @@ ladder κs a r q s t e f = (answered e f .0, ap (λ (l : List ℕ). (tt, (l, tt)
 
 pub step-of : Determined locks.step_of.ended locks.step_of.Reads.Learnt
 step-of κs a r q s t e f = (e ∙ sym f, refl)
-
--- saying
-pub put-said : Determined saying.put_said.ended saying.put_said.Reads.Learnt
-put-said κs a r q s t e f = (e .next ∙ sym (f .next), ap (λ (l : List ℕ). (l, (tt, (tt, (tt, tt))))) (e .whole ∙ sym (f .whole)))
 
 -- whatever the bytes
 pub asks-count-feeds : AsksNothing days.count_feeds.ended days.count_feeds.Reads.Asked

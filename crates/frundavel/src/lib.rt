@@ -53,13 +53,13 @@ fn hand_over(text: &[u8], out: &mut [u8]) -> Answer
     }
 }
 
-// The words for a refusal of a book, in a lent buffer.
+// The words for a refusal, in a lent buffer. The book is there for the numbers that name a field.
 #[no_mangle]
 pub extern "C" fn frundavel_reason(number: u64, place: u64, book: &[u8], words: &mut [u8]) -> Answer
-    ensures { λ r. ⌜ Answered (fitted (length (now (words .entry))) (reason number (fieldAt (now (book .entry)) place))) r (now (words .entry)) (now (words .exit)) ⌝ }
+    ensures { λ r. ⌜ Answered (fitted (length (now (words .entry))) (reason number place (fieldAt (now (book .entry)) place))) r (now (words .entry)) (now (words .exit)) ⌝ }
 {
     let mut text = [0u8; reasons::WORDS_ROOM];
-    let end = reasons::put_reason(&mut text, 0, number, reasons::field_at(book, place));
+    let end = reasons::put_reason(&mut text, 0, number, place, reasons::field_at(book, place));
     hand_over(&text[..end], words)
 }
 

@@ -16,12 +16,13 @@ use Rattle.laws.specs.Digits.{digits-length-20}
 use Rattle.printing.specs.Printed.{refusal-length}
 use Rattle.days.specs.Listed.{Verdict, Refused, Accepted}
 use Rattle.writing.specs.Written.{Wrote, written-nothing, written-length}
-use Rattle.saying.specs.Said.{said, reason-short, said-length}
+use Rattle.reasons.specs.Reason.{noTag, said}
+use Rattle.reasons.specs.Sizes.{reason-short, said-length}
 use Rattle.intake.specs.Told.{Put, statusBy, Ends, Exit}
 
-pub short : (program : List ℕ) (n place : ℕ) → length program ≤ 100 → Fits w64 n → Fits w64 place → length (said program n place) ≤ 256
+pub short : (program : List ℕ) (n place : ℕ) → length program ≤ 32 → Fits w64 n → Fits w64 place → length (said program n place noTag) ≤ 256
 short program n place f h g =
-    omega (arith, said-length program n place, reason-short n place, digits-length-20 n (omega (arith, h)), digits-length-20 place (omega (arith, g)))
+    omega (arith, said-length program n place noTag, reason-short n place noTag, digits-length-20 n (omega (arith, h)), digits-length-20 place (omega (arith, g)))
 
 pub refusal-short : (n place : ℕ) → Fits w64 n → Fits w64 place → length (listingOf (BookRefused n place)) ≤ 256
 refusal-short n place h g = omega (arith, refusal-length n place, digits-length-20 n (omega (arith, h)), digits-length-20 place (omega (arith, g)))

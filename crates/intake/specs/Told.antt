@@ -8,7 +8,7 @@ use lib.ListN.{length}
 use lib.IntN.{ℤ, pos, negsuc}
 use Rattle.days.specs.Listed.{Verdict, Refused, Accepted}
 use Rattle.writing.specs.Written.{written}
-use Rattle.saying.specs.Said.{said}
+use Rattle.reasons.specs.Reason.{noTag, said}
 use Rattle.shell.specs.Shell as shell
 
 -- a text stands at the front of the buffer, and all else is as it was
@@ -24,7 +24,7 @@ statusBy (Accepted metal ds) = shell.accepted
 
 -- on standard error: the line of a refusal, which begins with the program's name, and nothing of an accepted list
 abbrev pub saidBy : List ℕ → Verdict → List ℕ
-saidBy program (Refused n place) = said program n place
+saidBy program (Refused n place) = said program n place noTag
 saidBy program (Accepted metal ds) = []
 
 -- the program's status; or 2, where its listing was not written

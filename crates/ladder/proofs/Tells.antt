@@ -18,7 +18,7 @@ use Rattle.days.specs.Above.{refused-above}
 use Rattle.watch.specs.declared.Found.{Found}
 use Rattle.watch.specs.Answered.{Answered}
 use Rattle.watch.proofs.Answers.{fits-run, front-of}
-use Rattle.saying.specs.Said.{said}
+use Rattle.reasons.specs.Reason.{noTag, said}
 use Rattle.intake.specs.Told.{statusBy, saidBy}
 use Rattle.locks.specs.Ladder.{steps}
 use Rattle.locks.specs.Listing.{rungOf, answerOf, ladderIn, listed, listingBy}
@@ -36,7 +36,7 @@ pub record Took (v : Verdict) (r : Found) (exit : List ℕ) : Type 0 where
 
 pub record Not (v : Verdict) (r : Found) : Type 0 where
   pub listing : listingOf (BookRefused (r .number) (r .place)) ≡ listingBy v
-  pub line : said (bytes "ladder") (r .number) (r .place) ≡ saidBy (bytes "ladder") v
+  pub line : said (bytes "ladder") (r .number) (r .place) noTag ≡ saidBy (bytes "ladder") v
   pub status : 1 ≡ statusBy v
 
 abbrev rungs : List Day → List ℕ
@@ -67,7 +67,7 @@ module _ (total : ℕ) (s entry exit : List ℕ) (r : Found) (least : feeds s �
   not-by (Refused n place) e a z =
       record {
         listing = ap (λ k. listingOf (BookRefused k (r .place))) (a .number) ∙ ap (λ k. listingOf (BookRefused n k)) (a .place);
-        line = ap (λ k. said (bytes "ladder") k (r .place)) (a .number) ∙ ap (λ k. said (bytes "ladder") n k) (a .place);
+        line = ap (λ k. said (bytes "ladder") k (r .place) noTag) (a .number) ∙ ap (λ k. said (bytes "ladder") n k noTag) (a .place);
         status = refl;
       }
   not-by (Accepted metal ds) e a z =

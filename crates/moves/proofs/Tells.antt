@@ -14,7 +14,7 @@ use Rattle.days.specs.declared.Day.{Day}
 use Rattle.days.specs.Lines.{feeds}
 use Rattle.days.specs.Listed.{Verdict, Refused, Accepted, verdictOf}
 use Rattle.days.specs.Few.{accepted-few}
-use Rattle.saying.specs.Said.{said}
+use Rattle.reasons.specs.Reason.{noTag, said}
 use Rattle.watch.specs.declared.Found.{Found}
 use Rattle.watch.specs.Watch.{spans}
 use Rattle.watch.specs.Filling.{spans-length}
@@ -34,7 +34,7 @@ pub record Took (v : Verdict) (r : Found) (exit : List ℕ) : Type 0 where
 
 pub record Not (v : Verdict) (r : Found) : Type 0 where
   pub listing : listingOf (BookRefused (r .number) (r .place)) ≡ listingBy v
-  pub line : said (bytes "moves") (r .number) (r .place) ≡ saidBy (bytes "moves") v
+  pub line : said (bytes "moves") (r .number) (r .place) noTag ≡ saidBy (bytes "moves") v
   pub status : 1 ≡ statusBy v
 
 spans-size : (metal : Metal) (ds : List Day) → length (spans metal ds) ≡ length ds
@@ -60,7 +60,7 @@ module _ (total : ℕ) (s entry exit : List ℕ) (r : Found) (least : feeds s �
   not-by (Refused n place) e a z =
       record {
         listing = ap (λ k. listingOf (BookRefused k (r .place))) (a .number) ∙ ap (λ k. listingOf (BookRefused n k)) (a .place);
-        line = ap (λ k. said (bytes "moves") k (r .place)) (a .number) ∙ ap (λ k. said (bytes "moves") n k) (a .place);
+        line = ap (λ k. said (bytes "moves") k (r .place) noTag) (a .number) ∙ ap (λ k. said (bytes "moves") n k noTag) (a .place);
         status = refl;
       }
   not-by (Accepted metal ds) e a z =

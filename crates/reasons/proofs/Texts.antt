@@ -3,14 +3,12 @@
 use Prim.Native.Nat.{ℕ, _+_, _-_, _<_, _≤_}
 use mathlib.Core.Path.{_≡_, refl, ap, _∙_}
 use mathlib.Core.List.{List, [], _∷_}
-use mathlib.Core.Bool.{true, false}
 use native.Mathlib.Numerals.{add-one}
 use native.Mathlib.Omega.{arith}
 use lib.ListN.{length, getD, take, drop, length-drop}
 use lib.Seq.{drop-cons}
 use Rattle.rules.specs.Text.{is}
 use Rattle.laws.specs.ByTest.{by-test}
-use Rattle.reasons.specs.Reason.{plain, named, plainLine, withField, reason}
 use Rattle.reasons.specs.Lines.{firstLine, behindLines, lineOf}
 
 pub drop-step : (v : List ℕ) (i : ℕ) → i < length v → drop i v ≡ getD v i 0 ∷ drop (i + 1) v
@@ -40,12 +38,3 @@ module _ (text : List ℕ) (k from end : ℕ) (b : drop from text ≡ behindLine
   line-part =
       let n : end - from ≡ length (firstLine (drop from text)) = omega arith in
       ap (λ (m : ℕ). take m (drop from text)) n ∙ first-part (drop from text) ∙ ap firstLine b
-
--- the words of a number by whether it names the field
-pub with-name : (n f : ℕ) → named n f ≡ true → reason n f ≡ withField n f
-unfolding reason
-with-name n f e = simp e
-
-pub without-name : (n f k : ℕ) → named n f ≡ false → k ≡ plainLine n f → reason n f ≡ lineOf k plain
-unfolding reason
-without-name n f k e h = simp (e, h)

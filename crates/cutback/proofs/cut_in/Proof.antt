@@ -1,6 +1,5 @@
 -- `cutback::cut_in` meets its contract: the parts tell what the definition asks.
 -- Assumes nothing.
-use mathlib.Core.Path.{_≡_, ap, _∙_}
 use native.Mathlib.Omega.{arith}
 use borrow.Author.Needs.{needs}
 use Rattle.cutback.specs.Lines.{codesFrom}

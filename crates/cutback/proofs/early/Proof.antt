@@ -4,7 +4,7 @@ use mathlib.Core.Path.{_≡_, sym, _∙_}
 use mathlib.Core.Bool.{false}
 use lib.Dec.{ltb, eqb}
 use borrow.Author.Tests.{eq-eqb, ne-eqb, lt-ltb, le-ltb}
-use Rattle.cutback.specs.Judge.{gramsBad, countBad}
+use Rattle.cutback.specs.Judge.{gramsBad}
 use borrow.Author.Needs.{needs}
 use Rattle.cutback.proofs.early.Statement.{statement}
 use Rattle.cutback.proofs.early.Tie as tie

@@ -5,10 +5,6 @@ use Rattle.cutting.specs.Told.{orElse, gramsOf}
 use borrow.Author.Needs.{needs}
 use Rattle.cutting.proofs.grams_of.Statement.{statement}
 use Rattle.cutting.proofs.grams_of.Tie as tie
-use Rattle.cutting.proofs.grams_of.Reads as reads
-use Rattle.cutting.proofs.grams_of.Lts as lts
-use Rattle.cutting.proofs.or_else.Reads as or-else-reads
-use Rattle.figures.proofs.read_figure.Reads as read-figure-reads
 
 -- src/lib.rt:77:16
 read-figure-requires : tie.Need-read-figure-requires

@@ -10,11 +10,6 @@ use Rattle.cutting.proofs.Rows.{no-blank, after-part, empty-none}
 use borrow.Author.Needs.{needs}
 use Rattle.cutting.proofs.lots_of.Statement.{statement}
 use Rattle.cutting.proofs.lots_of.Tie as tie
-use Rattle.cutting.proofs.lots_of.Reads as reads
-use Rattle.cutting.proofs.lots_of.Lts as lts
-use Rattle.cutting.proofs.blank_in.Reads as blank-in-reads
-use Rattle.cutting.proofs.or_else.Reads as or-else-reads
-use Rattle.figures.proofs.read_figure.Reads as read-figure-reads
 
 -- src/lib.rt:84:9
 blank-in-requires : tie.Need-blank-in-requires

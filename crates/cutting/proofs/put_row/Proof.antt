@@ -1,20 +1,12 @@
 use Rattle.cutting.proofs.Rows.{row-length}
 -- `cutting::put_row` meets its contract: its parts join.
 -- Assumes nothing.
-use Prim.Native.Nat.{_+_, _≤_}
 use mathlib.Core.List.{append-assoc}
 use native.Mathlib.Omega.{arith}
-use lib.ListN.{length, length-append}
-use Rattle.rules.specs.Report.{digits}
 use Rattle.writing.specs.Written.{join}
 use borrow.Author.Needs.{needs}
 use Rattle.cutting.proofs.put_row.Statement.{statement}
 use Rattle.cutting.proofs.put_row.Tie as tie
-use Rattle.cutting.proofs.put_row.Reads as reads
-use Rattle.cutting.proofs.put_row.Lts as lts
-use Rattle.printing.proofs.put_worded.Reads as put-worded-reads
-use Rattle.writing.proofs.put_byte.Reads as put-byte-reads
-use Rattle.writing.proofs.put_bytes.Reads as put-bytes-reads
 
 -- src/lib.rt:123:9
 put-bytes-requires : tie.Need-put-bytes-requires

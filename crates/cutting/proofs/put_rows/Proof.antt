@@ -8,12 +8,6 @@ use lib.ListN.{length}
 use Rattle.cutting.proofs.Rows.{line-inside, Put, put-none, put-all, line-there, stop-inside, row-room, put-more}
 use Rattle.cutting.proofs.put_rows.Statement.{statement}
 use Rattle.cutting.proofs.put_rows.Tie as tie
-use Rattle.cutting.proofs.put_rows.Reads as reads
-use Rattle.cutting.proofs.put_rows.Lts as lts
-use Rattle.cutting.proofs.behind.Reads as behind-reads
-use Rattle.cutting.proofs.blank_in.Reads as blank-in-reads
-use Rattle.cutting.proofs.put_row.Reads as put-row-reads
-use Rattle.reasons.proofs.line_end.Reads as line-end-reads
 
 abbrev Inv-loop : tie.InvT-loop
 Inv-loop out₀ lines cuts here₀ at₀ i₀ out here at i = Put out₀ lines cuts out here at i

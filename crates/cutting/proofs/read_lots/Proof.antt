@@ -10,11 +10,6 @@ use Rattle.cutback.specs.Lines.{linesOf}
 use Rattle.cutting.proofs.Rows.{line-inside, next-line, Taken, taken-none, taken-more, taken-ended, taken-all}
 use Rattle.cutting.proofs.read_lots.Statement.{statement}
 use Rattle.cutting.proofs.read_lots.Tie as tie
-use Rattle.cutting.proofs.read_lots.Reads as reads
-use Rattle.cutting.proofs.read_lots.Lts as lts
-use Rattle.cutting.proofs.behind.Reads as behind-reads
-use Rattle.cutting.proofs.lots_of.Reads as lots-of-reads
-use Rattle.reasons.proofs.line_end.Reads as line-end-reads
 
 abbrev Inv-loop : tie.InvT-loop
 Inv-loop lines lots₀ at₀ k₀ lots at k = (at ≤ length lines) × Taken (linesOf lines) (linesOf (drop at lines)) lots k

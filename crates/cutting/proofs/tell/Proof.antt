@@ -5,15 +5,15 @@ use mathlib.Core.Path.{_≡_, refl, sym, ap, subst, _∙_}
 use mathlib.Core.List.{List}
 use native.Mathlib.Omega.{arith}
 use native.Mathlib.Nat.{zero-add}
-use lib.ListN.{length, take, drop, length-take, length-drop}
+use lib.ListN.{length, take, drop, length-drop}
 use lib.Seq.{take-all}
 use mir.Syntax.{w64}
 use mir.Val.{Fits}
-use Rattle.writing.specs.Written.{Room, Wrote, written-nothing}
+use Rattle.writing.specs.Written.{Wrote, written-nothing}
 use Rattle.allotment.specs.Answered.{Listed}
 use Rattle.cutback.specs.Lines.{linesOf, codesAhead}
 use Rattle.cutback.specs.Judge.{Verdict}
-use Rattle.cutting.specs.Told.{seats, verdict, rows, listing, saidOf, statusOf}
+use Rattle.cutting.specs.Told.{seats, rows, listing, saidOf, statusOf}
 use Rattle.cutting.proofs.Telling.{refused-so, Rowed, rowed-so, said-fits, refusal-fits}
 use borrow.Author.Needs.{needs}
 use Rattle.cutting.proofs.tell.Statement.{statement}
@@ -54,8 +54,11 @@ answer-of-requires c κs = search needs
 put-refusal-requires : tie.Need-put-refusal-requires
 put-refusal-requires c κs = let o = c .before .before .before in let f : Fits w64 (o .answer-of .result .number) = search needs in omega (arith, refusal-fits (o .answer-of .result .number) f, start o .pre .0)
 
+slice-aggregate-put-said : tie.Need-slice-aggregate-put-said
+slice-aggregate-put-said c = search needs
+
 put-said-requires : tie.Need-put-said-requires
-put-said-requires c κs = let o = c .before .before .before .before .before .before .before in let f : Fits w64 (o .answer-of .result .number) = search needs in omega (arith, said-fits (o .answer-of .result .number) f, start o .pre .1)
+put-said-requires c κs = let o = c .before .before .before .before .before .before .before .before in let f : Fits w64 (o .answer-of .result .number) = search needs in omega (arith, said-fits (o .answer-of .result .number) f, start o .pre .1)
 
 same-length : tie.Need-same-length
 same-length c = search needs
@@ -66,7 +69,7 @@ same-length-2 c = search needs
 returns : tie.Need-returns
 returns c =
     let p = c .before .before in
-    let f = p .before .before .before .before in
+    let f = p .before .before .before .before .before in
     let t = f .before .before in
     let o = t .before .before in
     let s = start o in
@@ -125,6 +128,7 @@ tell-spec =
     slice-aggregate-answer-of
     answer-of-requires
     put-refusal-requires
+    slice-aggregate-put-said
     put-said-requires
     same-length
     same-length-2

@@ -16,8 +16,8 @@ use Rattle.frundavel.proofs.frundavel_reason.Statement.{statement}
 use Rattle.frundavel.proofs.frundavel_reason.Tie as tie
 
 -- all words fit the buffer
-fits : (c : tie.After-field-at) → Room 0 (reason (c .before .before .before .before .args .number) (c .field-at .result)) (replicate 128 0)
-fits c = omega (arith, reason-short (c .before .before .before .before .args .number) (c .field-at .result))
+fits : (c : tie.After-field-at) → let a = c .before .before .before .before .args in Room 0 (reason (a .number) (a .place) (c .field-at .result)) (replicate 128 0)
+fits c = let a = c .before .before .before .before .args in omega (arith, reason-short (a .number) (a .place) (c .field-at .result))
 
 slice-aggregate-put-reason : tie.Need-slice-aggregate-put-reason
 slice-aggregate-put-reason c = search needs
@@ -46,7 +46,7 @@ returns c =
     let p = h .before .before .before .before in
     let a = p .before .before .before .before .before .args in
     subst (λ (w : List ℕ). Answered (fitted (length (a .words .now)) w) (h .hand-over .result) (a .words .now) (h .hand-over .last .1 .0))
-    (front (p .put-reason .ensures) (fits (p .before)) ∙ ap (reason (a .number)) (p .before .field-at .ensures))
+    (front (p .put-reason .ensures) (fits (p .before)) ∙ ap (reason (a .number) (a .place)) (p .before .field-at .ensures))
     (h .hand-over .ensures)
 
 pub frundavel-reason-spec : {M : Type 1} → statement M

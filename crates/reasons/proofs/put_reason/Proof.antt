@@ -1,27 +1,27 @@
--- `reasons::put_reason` meets its contract, with a field's name and without.
+-- `reasons::put_reason` meets its contract, for a number that has words and for one that has none.
 -- Assumes nothing.
-use mathlib.Core.Path.{_≡_, sym, subst, _∙_}
+use mathlib.Core.Path.{_≡_, sym, _∙_}
 use mathlib.Core.Bool.{true, false}
-use mathlib.Core.List.{List}
-use Prim.Native.Nat.{ℕ}
 use borrow.Author.Needs.{needs}
-use Rattle.writing.specs.Written.{Room, Wrote}
-use Rattle.reasons.specs.Reason.{named}
-use Rattle.reasons.proofs.Texts.{with-name, without-name}
+use Rattle.reasons.specs.Reason.{hasWords}
+use Rattle.reasons.proofs.Words.{room, wrote, worded, wordless}
 use Rattle.reasons.proofs.put_reason.Statement.{statement}
 use Rattle.reasons.proofs.put_reason.Tie as tie
 
-named-so : (c : tie.Then1) → let a = c .before .before .before .args in named (a .number) (a .field) ≡ true
-named-so c = sym (c .before .names-field .ensures) ∙ c .if1 .taken
+has : (c : tie.Then1) → hasWords (c .before .before .before .args .number) ≡ true
+has c = sym (c .before .has-words .ensures) ∙ c .if1 .taken
 
-plain-so : (c : tie.Else1) → let a = c .before .before .before .args in named (a .number) (a .field) ≡ false
-plain-so c = sym (c .before .names-field .ensures) ∙ c .if1 .left
+has-none : (c : tie.Else1) → hasWords (c .before .before .before .args .number) ≡ false
+has-none c = sym (c .before .has-words .ensures) ∙ c .if1 .left
 
-names-field-requires : tie.Need-names-field-requires
-names-field-requires c κs = search needs
+has-words-requires : tie.Need-has-words-requires
+has-words-requires c κs = search needs
 
-put-named-requires : tie.Need-put-named-requires
-put-named-requires c κs = let a = c .before .before .before .before .args in rw (← with-name (a .number) (a .field) (named-so (c .before))) (c .before .before .before .before .pre)
+put-known-requires : tie.Need-put-known-requires
+put-known-requires c κs =
+    let i = c .before in
+    let s = i .before .before .before in
+    room (s .args .at) (s .args .out .now) (worded (s .args .number) (s .args .place) (s .args .field) (has i)) (s .pre)
 
 same-length : tie.Need-same-length
 same-length c = search needs
@@ -29,20 +29,18 @@ same-length c = search needs
 returns : tie.Need-returns
 returns c =
     let w = c .before .before in
-    let a = w .before .before .before .before .before .args in
-    rw (with-name (a .number) (a .field) (named-so (w .before .before))) (w .put-named .ensures)
+    let i = w .before .before in
+    let a = i .before .before .before .args in
+    wrote (worded (a .number) (a .place) (a .field) (has i)) (w .put-known .ensures)
 
-slice-aggregate-put-line : tie.Need-slice-aggregate-put-line
-slice-aggregate-put-line c = search needs
+slice-aggregate-put-bytes : tie.Need-slice-aggregate-put-bytes
+slice-aggregate-put-bytes c = search needs
 
-plain-line-requires : tie.Need-plain-line-requires
-plain-line-requires c κs = search needs
-
-put-line-requires : tie.Need-put-line-requires
-put-line-requires c κs =
-    let e = c .before .before .before in
-    let s = e .before .before .before in
-    subst (λ (w : List ℕ). Room (s .args .at) w (s .args .out .now)) (without-name (s .args .number) (s .args .field) (c .plain-line .result) (plain-so e) (c .plain-line .ensures)) (s .pre)
+put-bytes-requires : tie.Need-put-bytes-requires
+put-bytes-requires c κs =
+    let i = c .before .before in
+    let s = i .before .before .before in
+    room (s .args .at) (s .args .out .now) (wordless (s .args .number) (s .args .place) (s .args .field) (has-none i)) (s .pre)
 
 same-length-2 : tie.Need-same-length-2
 same-length-2 c = search needs
@@ -50,23 +48,19 @@ same-length-2 c = search needs
 returns-2 : tie.Need-returns-2
 returns-2 c =
     let w = c .before .before in
-    let l = w .before in
-    let e = l .before .before .before in
-    let s = e .before .before .before in
-    subst (λ (x : List ℕ). Wrote (s .args .at) x (s .args .out .now) (w .put-line .last .0) (w .put-line .result))
-    (sym (without-name (s .args .number) (s .args .field) (l .plain-line .result) (plain-so e) (l .plain-line .ensures)))
-    (w .put-line .ensures)
+    let i = w .before .before .before in
+    let a = i .before .before .before .args in
+    wrote (wordless (a .number) (a .place) (a .field) (has-none i)) (w .put-bytes .ensures)
 
 pub put-reason-spec : {M : Type 1} → statement M
 put-reason-spec =
     tie.close
     (tie.spec
-    names-field-requires
-    put-named-requires
+    has-words-requires
+    put-known-requires
     same-length
     returns
-    slice-aggregate-put-line
-    plain-line-requires
-    put-line-requires
+    slice-aggregate-put-bytes
+    put-bytes-requires
     same-length-2
     returns-2)

@@ -31,7 +31,7 @@ put-worded-requires-2 c κs =
 put-why-requires : tie.Need-put-why-requires
 put-why-requires c κs =
     let a = c .before .before .before .before .before .before .before .before .before .before .before .before .before .before .before .before .before .args in
-    omega (arith, said-length (a .program .now) (a .number) (a .place) (a .field), why-length (a .number) (a .field))
+    omega (arith, said-length (a .program .now) (a .number) (a .place) (a .field), why-length (a .number) (a .place) (a .field))
 
 same-length : tie.Need-same-length
 same-length c = search needs

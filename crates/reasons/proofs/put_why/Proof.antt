@@ -11,13 +11,13 @@ slice-aggregate-put-bytes : tie.Need-slice-aggregate-put-bytes
 slice-aggregate-put-bytes c = search needs
 
 put-bytes-requires : tie.Need-put-bytes-requires
-put-bytes-requires c κs = let a = c .before .before .before .args in omega (arith, why-length (a .number) (a .field))
+put-bytes-requires c κs = let a = c .before .before .before .args in omega (arith, why-length (a .number) (a .place) (a .field))
 
 put-reason-requires : tie.Need-put-reason-requires
-put-reason-requires c κs = let a = c .before .before .before .before .before .before .before .args in omega (arith, why-length (a .number) (a .field))
+put-reason-requires c κs = let a = c .before .before .before .before .before .before .before .args in omega (arith, why-length (a .number) (a .place) (a .field))
 
 put-byte-requires : tie.Need-put-byte-requires
-put-byte-requires c κs = let a = c .before .before .before .before .before .before .before .before .before .before .before .args in omega (arith, why-length (a .number) (a .field))
+put-byte-requires c κs = let a = c .before .before .before .before .before .before .before .before .before .before .before .args in omega (arith, why-length (a .number) (a .place) (a .field))
 
 same-length : tie.Need-same-length
 same-length c = search needs
@@ -28,7 +28,7 @@ returns c =
     let words = feed .before .before .before .before in
     let first = words .before .before .before .before in
     let a = first .before .before .before .before .args in
-    let l = why-length (a .number) (a .field) in
+    let l = why-length (a .number) (a .place) (a .field) in
     join (first .put-bytes .ensures) (join (words .put-reason .ensures) (feed .put-byte .ensures) (omega (arith, l))) (omega arith)
 
 pub put-why-spec : {M : Type 1} → statement M

@@ -1,6 +1,5 @@
 -- `seats::goes_before` meets its contract, test by test.
 -- Assumes nothing.
-use native.Mathlib.Omega.{arith}
 use Rattle.cutback.proofs.Lots.{first-larger, first-equal, first-not}
 use Rattle.cutback.proofs.seats.goes_before.Statement.{statement}
 use Rattle.cutback.proofs.seats.goes_before.Tie as tie

@@ -3,16 +3,15 @@
 -- Assumes nothing.
 use borrow.Author.Needs.{needs}
 use Prim.Native.Nat.{ℕ, _+_, _-_, _^_}
-use mathlib.Core.Path.{_≡_, refl, sym, ap, _∙_}
+use mathlib.Core.Path.{_≡_, sym, _∙_}
 use mathlib.Core.List.{List}
 use native.Mathlib.Omega.{arith}
-use lib.ListN.{length, take, drop}
+use lib.ListN.{length, drop}
 use mathlib.Core.Bool.{true}
 use Rattle.rules.specs.Codes.{isCode}
 use Rattle.laws.specs.Keys.{keyOf}
 use Rattle.codes.proofs.Laws.{key-read, none-read}
 use Rattle.cutback.specs.Lines.{codesFrom}
-use Rattle.cutback.specs.Judge.{codesBad}
 use Rattle.cutback.specs.Walk.{inside, part, Few}
 use Rattle.cutback.proofs.Places.{no-more}
 use Rattle.cutback.proofs.Codes.{bad-here, bad-again, Passed, passed-none, passed-all, passed-bad, passed-more}

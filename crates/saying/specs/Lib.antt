@@ -1,2 +1,0 @@
--- What the contracts of saying cite: what a refusal of a list says in words.
-pub mod Said
