@@ -136,7 +136,7 @@ fn refused(written: Written) -> Figure
     }
 }
 
-// And what it says to who asks for a form: the one reader of every figure.
+// And what it says to who asks for a form. A trade and lots held have readers of their own, which answer the same.
 pub fn read_figure(v: &[u8], form: Form) -> Figure
     ensures { λ r. ⌜ r ≡ figureOf form (now (v .entry)) ⌝ }
 {
@@ -154,7 +154,7 @@ fn no_value(v: &[u8]) -> Figure
     refused(no_figure(v))
 }
 
-// Lots in K, H and Q, of which a book has most: digits alone, so that no point is looked for.
+// Lots in K, H and Q: digits alone, so that no point is looked for. Short enough for LLVM to put it into the loop over a customer's seats.
 pub fn read_held(v: &[u8]) -> Figure
     ensures { λ r. ⌜ r ≡ figureOf heldForm (now (v .entry)) ⌝ }
 {
