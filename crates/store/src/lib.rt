@@ -75,7 +75,7 @@ fn counted(lots: u64, need: u64, newer: u64) -> u64
 fn gain_held(
     stamps: &[u64; 128],
     lots: &[u64; 128],
-    prices: &[u64; 128],
+    prices: &[u32; 128],
     count: usize,
     settlement: Fen,
     long: bool,
@@ -88,7 +88,7 @@ fn gain_held(
     let mut i: usize = 0;
     while i < count {
         let n = counted(lots[i], need, newer(stamps, lots, count, i));
-        gain += gain::gain_of(long, settlement, Fen(prices[i]), n);
+        gain += gain::gain_of(long, settlement, Fen(prices[i] as u64), n);
         i += 1;
     }
     gain
@@ -101,7 +101,7 @@ fn fill(
     first: usize,
     stamps: &mut [u64; 128],
     lots: &mut [u64; 128],
-    prices: &mut [u64; 128],
+    prices: &mut [u32; 128],
 ) -> usize
     requires { ⌜ Readable (now book) first ⌝ ∗ ⌜ Sizes (now stamps) (now lots) (now prices) ⌝ }
     ensures { λ r. ⌜ Filled long (now (book .entry)) first r (now (stamps .exit)) (now (lots .exit)) (now (prices .exit)) ⌝ }
@@ -119,7 +119,7 @@ fn fill(
             }
             stamps[count] = trade.stamp.0;
             lots[count] = n;
-            prices[count] = trade.price.0;
+            prices[count] = trade.price.0 as u32;
             count += 1;
         }
         at = end;
@@ -133,7 +133,7 @@ pub fn stored_gain(book: &[u8], settlement: Fen, long: bool, first: usize, need:
 {
     let mut stamps = [0u64; 128];
     let mut lots = [0u64; 128];
-    let mut prices = [0u64; 128];
+    let mut prices = [0u32; 128];
     let count = fill(book, long, first, &mut stamps, &mut lots, &mut prices);
     if ROOM < count {
         return Stored::TooMany;

@@ -104,26 +104,30 @@ mul-lots c = search needs
 element-write-lots : tie.Need-element-write-lots Inv-loop μ-loop
 element-write-lots c = inside c
 
+-- a price fits 32 bits
+cast-prices : tie.Need-cast-prices Inv-loop μ-loop
+cast-prices c = omega (arith, tells (turn (c .before .before)) .price-most)
+
 mul-prices : tie.Need-mul-prices Inv-loop μ-loop
 mul-prices c = search needs
 
 element-write-prices : tie.Need-element-write-prices Inv-loop μ-loop
-element-write-prices c = inside c
+element-write-prices c = inside (c .before)
 
 add-count : tie.Need-add-count Inv-loop μ-loop
 add-count c = search needs
 
 loop-less : tie.Need-loop-less Inv-loop μ-loop
-loop-less c = let t = turn (c .before) in omega (arith, tells t .on, tells t .inside)
+loop-less c = let t = turn (c .before .before) in omega (arith, tells t .on, tells t .inside)
 
 loop-again : tie.Need-loop-again Inv-loop μ-loop
 loop-again c =
-    let t = turn (c .before) in
+    let t = turn (c .before .before) in
     let l = at-loop t .loop in
     let a = start t .args in (
       tells t .readable (l .inv .0),
       filling-more (a .long) (a .book .now) (a .first) (l .at) (l .count) (l .stamps) (l .lots) (l .prices) (l .inv .1) (end t) (t .lots-on .result) (trade t)
-          (side (c .before)) (t .lots-on .ensures) (omega arith) (few t) (tells t .price-most) (inside c),
+          (side (c .before .before)) (t .lots-on .ensures) (omega arith) (few t) (tells t .price-most) (inside (c .before)),
     )
 
 loop-less-2 : tie.Need-loop-less-2 Inv-loop μ-loop
@@ -155,6 +159,7 @@ fill-spec =
     element-write-stamps
     mul-lots
     element-write-lots
+    cast-prices
     mul-prices
     element-write-prices
     add-count

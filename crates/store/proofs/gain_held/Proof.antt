@@ -60,8 +60,11 @@ counted-requires c κs = search needs
 mul-t12 : tie.Need-mul-t12 Inv-loop μ-loop
 mul-t12 c = search needs
 
-element-copy-out-t16 : tie.Need-element-copy-out-t16 Inv-loop μ-loop
-element-copy-out-t16 c = search needs
+element-copy-out-t20 : tie.Need-element-copy-out-t20 Inv-loop μ-loop
+element-copy-out-t20 c = search needs
+
+cast-t16 : tie.Need-cast-t16 Inv-loop μ-loop
+cast-t16 c = let k = c .before in omega (arith, at-loop k .before .pre .priced (at-loop k .loop .i) (place k))
 
 gain-of-requires : tie.Need-gain-of-requires Inv-loop μ-loop
 gain-of-requires c κs =
@@ -122,7 +125,8 @@ gain-held-spec =
     newer-requires
     counted-requires
     mul-t12
-    element-copy-out-t16
+    element-copy-out-t20
+    cast-t16
     gain-of-requires
     add-gain
     add-i
