@@ -1,0 +1,1 @@
+// What is promised of comma sheets, as cases and as theorems, in specs/; no code.
