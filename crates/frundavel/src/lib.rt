@@ -11,6 +11,7 @@ ghost use Rattle.cutback.specs.Lines.{codesIn};
 ghost use Rattle.cutback.specs.Judge.{judge, answerOf};
 ghost use Rattle.watch.specs.Moves.{moves};
 ghost use Rattle.locks.specs.Listing.{ladder};
+ghost use Rattle.sheets.specs.Answers.{toBook, toSheet};
 
 // A book and a lent buffer: the answer, and the report at the front of the buffer where the book is accepted.
 #[no_mangle]
@@ -99,6 +100,32 @@ pub extern "C" fn frundavel_ladder(list: &[u8], steps: &mut [u64]) -> Answer
     ensures { λ r. ⌜ Answered (ladder (now (list .entry)) (length (now (steps .entry)))) r (now (steps .entry)) (now (steps .exit)) ⌝ }
 {
     let found = locks::ladder(list, steps);
+    Answer {
+        number: found.number,
+        place: found.place,
+        length: found.length,
+    }
+}
+
+// A sheet and a lent buffer: the answer, and the book that the sheet makes at the front of the buffer, accepted or refused.
+#[no_mangle]
+pub extern "C" fn frundavel_sheet_to_book(sheet: &[u8], book: &mut [u8]) -> Answer
+    ensures { λ r. ⌜ Answered (toBook (now (sheet .entry)) (length (now (book .entry)))) r (now (book .entry)) (now (book .exit)) ⌝ }
+{
+    let found = sheets::sheet_to_book(sheet, book);
+    Answer {
+        number: found.number,
+        place: found.place,
+        length: found.length,
+    }
+}
+
+// A book, a mark and a lent buffer: the answer, and the book as a sheet at the front of the buffer where it is accepted.
+#[no_mangle]
+pub extern "C" fn frundavel_book_to_sheet(book: &[u8], mark: u8, sheet: &mut [u8]) -> Answer
+    ensures { λ r. ⌜ Answered (toSheet (now (book .entry)) mark (length (now (sheet .entry)))) r (now (sheet .entry)) (now (sheet .exit)) ⌝ }
+{
+    let found = sheets::book_to_sheet(book, mark, sheet);
     Answer {
         number: found.number,
         place: found.place,

@@ -39,6 +39,12 @@ frundavel-moves κs a = tt
 pub frundavel-ladder : AsksNothing frundavel.frundavel_ladder.ended frundavel.frundavel_ladder.Reads.Asked
 frundavel-ladder κs a = tt
 
+pub frundavel-sheet-to-book : AsksNothing frundavel.frundavel_sheet_to_book.ended frundavel.frundavel_sheet_to_book.Reads.Asked
+frundavel-sheet-to-book κs a = tt
+
+pub frundavel-book-to-sheet : AsksNothing frundavel.frundavel_book_to_sheet.ended frundavel.frundavel_book_to_sheet.Reads.Asked
+frundavel-book-to-sheet κs a = tt
+
 pub frundavel-reason : AsksNothing frundavel.frundavel_reason.ended frundavel.frundavel_reason.Reads.Asked
 frundavel-reason κs a = tt
 

@@ -212,6 +212,12 @@ frundavel-moves κs a r q s t e f = answered e f
 pub frundavel-ladder : Determined frundavel.frundavel_ladder.ended frundavel.frundavel_ladder.Reads.Learnt
 frundavel-ladder κs a r q s t e f = answered e f
 
+pub frundavel-sheet-to-book : Determined frundavel.frundavel_sheet_to_book.ended frundavel.frundavel_sheet_to_book.Reads.Learnt
+frundavel-sheet-to-book κs a r q s t e f = answered e f
+
+pub frundavel-book-to-sheet : Determined frundavel.frundavel_book_to_sheet.ended frundavel.frundavel_book_to_sheet.Reads.Learnt
+frundavel-book-to-sheet κs a r q s t e f = (answered e f .0, ap (λ out. (tt, (tt, (out, tt)))) (e .buffer ∙ sym (f .buffer)))
+
 pub frundavel-reason : Determined frundavel.frundavel_reason.ended frundavel.frundavel_reason.Reads.Learnt
 frundavel-reason κs a r q s t e f = (
   answered e f .0,
