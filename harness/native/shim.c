@@ -25,6 +25,24 @@ struct answer frundavel_columns(const byte *book, size count, byte *standings, s
     product_columns(&a, book, count, standings, s, offered, f, pending, p, offsets, o);
     return a;
 }
+
+struct answer *product_sheet_to_book(struct answer *to, const byte *sheet, size count, byte *book, size room);
+
+struct answer frundavel_sheet_to_book(const byte *sheet, size count, byte *book, size room)
+{
+    struct answer a;
+    product_sheet_to_book(&a, sheet, count, book, room);
+    return a;
+}
+
+struct answer *product_book_to_sheet(struct answer *to, const byte *book, size count, byte mark, byte *sheet, size room);
+
+struct answer frundavel_book_to_sheet(const byte *book, size count, byte mark, byte *sheet, size room)
+{
+    struct answer a;
+    product_book_to_sheet(&a, book, count, mark, sheet, room);
+    return a;
+}
 #endif
 
 #ifdef ROWS

@@ -22,4 +22,12 @@ pub fn columns(_book: &[u8], _standings: &mut [u8], _lots: [&mut [u64]; 3]) -> A
     panic!("{NOT_LINKED}")
 }
 
+pub fn sheet_to_book(sheet: &[u8], book: &mut [u8]) -> Answer {
+    allot(sheet, book)
+}
+
+pub fn book_to_sheet(book: &[u8], _mark: u8, sheet: &mut [u8]) -> Answer {
+    allot(book, sheet)
+}
+
 const NOT_LINKED: &str = "the product is an x86-64 archive and is not linked in on this machine";

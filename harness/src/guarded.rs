@@ -7,7 +7,7 @@ use crate::draw::Draw;
 /// Guard places on either side of the room.
 pub const GUARD: usize = 64;
 
-const PATTERN: usize = 1 << 16;
+const PATTERN: usize = 1 << 18;
 
 /// Bytes that buffers are filled from, each from another place.
 fn pattern() -> &'static [u8] {

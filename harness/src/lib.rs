@@ -6,9 +6,12 @@
 //!    which [`trades`] has the stamps of trades;
 //! 4. [`run`] does so for many books; [`shrink`] and [`plain`] make a book with a difference small and [`text`] prints it;
 //! 5. [`lists`] holds calls and programs on lists of days to it;
-//! 6. [`stored`] holds the calls to books that somebody else has read, and to the reports that are stored beside them.
+//! 6. [`sheets`] holds calls and program on comma sheets, and on books to be written as such, to it;
+//!    [`command`] has what their commands share;
+//! 7. [`stored`] holds the calls to books that somebody else has read, and to the reports that are stored beside them.
 
 pub mod columns;
+pub mod command;
 pub mod compare;
 pub mod draw;
 pub mod fields;
@@ -21,6 +24,7 @@ pub mod program;
 pub mod rearrange;
 pub mod run;
 pub mod runs;
+pub mod sheets;
 pub mod shrink;
 pub mod statement;
 pub mod stored;

@@ -1,10 +1,10 @@
 //! Lists of days through a call, in runs of several sizes, and through a program, beside what the second program says of them.
 
-use std::io::Write;
-use std::process::{Command, ExitCode, Stdio};
+use std::process::ExitCode;
 
 use second::days::{Kind, Refusal};
 
+use crate::command::{asked, fed, Asked, Count};
 use crate::guarded::{Lent, Place};
 use crate::product::Answer;
 
@@ -29,40 +29,36 @@ pub struct Tried<T> {
 const NO_ROOM: u64 = 11;
 
 impl<T: Place + PartialEq> Tried<T> {
-    /// The command: `NAME SEED CALLS RUNS PROGRAM..`, so many generated lists through the call and through the program.
+    /// The command: so many generated lists through the call and through the program.
     pub fn command(&self, command: &str, words: &[String]) -> ExitCode {
-        let numbers: Vec<u64> = words
-            .iter()
-            .take(3)
-            .filter_map(|word| word.parse().ok())
-            .collect();
-        let program = words.get(3..).filter(|words| !words.is_empty());
-        let (&[seed, calls, runs], Some(program)) = (&numbers[..], program) else {
-            eprintln!("usage: {command} SEED CALLS RUNS PROGRAM..");
-            return ExitCode::from(2);
+        let asked = asked(command, words);
+        let Asked {
+            seed,
+            calls,
+            runs,
+            program,
+        } = match asked {
+            Ok(asked) => asked,
+            Err(status) => return status,
         };
-        let (mut passed, mut failed) = (0, 0);
+        let mut count = Count::default();
         for list in self.also.iter().filter(|_| calls > 0) {
-            let good = self.called(list);
-            if !good {
-                println!("FAILED: {:?}", String::from_utf8_lossy(list));
-            }
-            (passed, failed) = (passed + u64::from(good), failed + u64::from(!good));
+            count.add(self.called(list), || {
+                format!("{:?}", String::from_utf8_lossy(list))
+            });
         }
         for index in 0..calls.max(runs) {
             let (bytes, kind) = (self.list)(seed, index);
             let good = (index >= calls || self.called(&bytes))
                 && (index >= runs || self.told(program, &bytes));
-            if !good {
-                println!(
-                    "FAILED: seed {seed}, index {index}, {kind:?}, {} bytes",
+            count.add(good, || {
+                format!(
+                    "seed {seed}, index {index}, {kind:?}, {} bytes",
                     bytes.len()
-                );
-            }
-            (passed, failed) = (passed + u64::from(good), failed + u64::from(!good));
+                )
+            });
         }
-        println!("{passed} passed, {failed} failed");
-        ExitCode::from(u8::from(failed > 0 || passed == 0))
+        count.end()
     }
 
     /// A list through the call, in runs of every kind of size.
@@ -79,18 +75,7 @@ impl<T: Place + PartialEq> Tried<T> {
 
     /// A list through the program: what it prints, how what it says begins, and its status.
     pub fn told(&self, program: &[String], list: &[u8]) -> bool {
-        let mut process = Command::new(&program[0])
-            .args(&program[1..])
-            .stdin(Stdio::piped())
-            .stdout(Stdio::piped())
-            .stderr(Stdio::piped())
-            .spawn()
-            .expect("the program starts");
-        let mut stdin = process.stdin.take().expect("a pipe");
-        // It stops reading where no more bytes can matter.
-        let _ = stdin.write_all(list);
-        drop(stdin);
-        let out = process.wait_with_output().expect("the program ends");
+        let out = fed(program, &[], list);
         let wanted = (self.listing)(list);
         let status = i32::from(wanted.starts_with("refused"));
         let said = if status == 0 {

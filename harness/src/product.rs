@@ -32,6 +32,17 @@ extern "C" {
         offsets: *mut u64,
         offsets_places: usize,
     ) -> Answer;
+
+    fn frundavel_sheet_to_book(sheet: *const u8, size: usize, book: *mut u8, room: usize)
+        -> Answer;
+
+    fn frundavel_book_to_sheet(
+        book: *const u8,
+        size: usize,
+        mark: u8,
+        sheet: *mut u8,
+        room: usize,
+    ) -> Answer;
 }
 
 /// Judges a book and writes the report at the front of the lent buffer.
@@ -62,6 +73,26 @@ pub fn columns(book: &[u8], standings: &mut [u8], lots: [&mut [u64]; 3]) -> Answ
             pending.len(),
             offsets.as_mut_ptr(),
             offsets.len(),
+        )
+    }
+}
+
+/// Reads a sheet and writes its book at the front of the lent buffer.
+pub fn sheet_to_book(sheet: &[u8], book: &mut [u8]) -> Answer {
+    // SAFETY: as above.
+    unsafe { frundavel_sheet_to_book(sheet.as_ptr(), sheet.len(), book.as_mut_ptr(), book.len()) }
+}
+
+/// Writes a book as a sheet at the front of the lent buffer.
+pub fn book_to_sheet(book: &[u8], mark: u8, sheet: &mut [u8]) -> Answer {
+    // SAFETY: as above.
+    unsafe {
+        frundavel_book_to_sheet(
+            book.as_ptr(),
+            book.len(),
+            mark,
+            sheet.as_mut_ptr(),
+            sheet.len(),
         )
     }
 }

@@ -9,7 +9,7 @@
 //! 4. [`division`] divides whole lots, [`cascade`] does so for the three tiers;
 //! 5. [`report`] and [`listing`] write the result, [`columns`] puts it into runs; [`call`] is what callers use.
 //!
-//! [`make`] generates books from a seed and shares no code with the steps above.
+//! [`sheet`] reads and writes comma sheets. [`make`] generates books from a seed and shares no code with the steps above.
 
 pub mod call;
 pub mod cascade;
@@ -26,6 +26,7 @@ pub mod make;
 pub mod reader;
 pub mod refusal;
 pub mod report;
+pub mod sheet;
 pub mod stamp;
 pub mod standing;
 pub mod terms;

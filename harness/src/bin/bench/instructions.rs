@@ -7,6 +7,7 @@ use std::process::Command;
 
 use crate::books::{self, Book};
 use crate::programs::{Program, ROOM};
+use crate::timing::Timed;
 
 const FEW: u64 = 2;
 const MANY: u64 = 12;

@@ -1,13 +1,15 @@
 //! The benchmark: the product beside the second program, on the same books and in one process.
 //!
 //! `bench` prints times, growth and stack and says which bars are met; its status is 1 where one is missed.
-//! `bench layouts` prints the product's times and stack in columns and in rows alone. `bench instructions` counts
+//! `bench layouts` prints the product's times and stack in columns and in rows alone, and `bench sheets` those of comma
+//! sheets. `bench instructions` counts
 //! instructions by valgrind. `bench one PROGRAM BOOK COUNT` is what valgrind runs. `bench books FOLDER` writes the books
 //! to a folder, for the gate's test of the stack.
 
 mod books;
 mod instructions;
 mod programs;
+mod sheets;
 mod stack;
 mod timing;
 
@@ -49,10 +51,11 @@ fn main() -> ExitCode {
         ),
         [] => everything(),
         ["layouts"] => agreed(&books::all()).map(|()| layouts(&books::all())),
+        ["sheets"] => sheets::times().and_then(within),
         ["instructions"] => instructions::table(),
         ["one", program, book, count] => instructions::repeat(program, book, count),
         _ => Err(
-            "no words, or: layouts, or: instructions, or: one PROGRAM BOOK COUNT, or: books FOLDER"
+            "no words, or: layouts, or: sheets, or: instructions, or: one PROGRAM BOOK COUNT, or: books FOLDER"
                 .into(),
         ),
     };
@@ -106,12 +109,14 @@ fn everything() -> Result<(), String> {
         growth("one customer, shuffled", &shuffled, None),
         growth("one customer, reversed", &reversed, None),
         stacks(&books),
+        sheets::times()?,
     ];
     layouts(&books);
-    if met.contains(&false) {
-        return Err("a bar is missed".into());
-    }
-    Ok(())
+    within(!met.contains(&false))
+}
+
+fn within(met: bool) -> Result<(), String> {
+    met.then_some(()).ok_or("a bar is missed".into())
 }
 
 fn agreed(books: &[Book]) -> Result<(), String> {
@@ -140,14 +145,14 @@ fn times(books: &[Book]) -> bool {
     met
 }
 
-fn shown(times: Times) -> String {
+pub fn shown(times: Times) -> String {
     format!(
         "{:>8.0} ({:.0} to {:.0})",
         times.median, times.tenth, times.ninetieth
     )
 }
 
-fn verdict(met: Option<bool>) -> &'static str {
+pub fn verdict(met: Option<bool>) -> &'static str {
     match met {
         Some(true) => "met",
         Some(false) => "MISSED",

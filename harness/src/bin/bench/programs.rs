@@ -1,5 +1,7 @@
 //! The programs that are measured, called in the same way: the product, the second program, and the product worked in rows.
 
+use crate::timing::Timed;
+
 /// More than any report takes.
 pub const ROOM: usize = 34_000;
 
@@ -26,9 +28,16 @@ impl Program {
             Program::InRows => "rows",
         }
     }
+}
 
-    /// One call: number, place and length.
-    pub fn call(self, book: &[u8], report: &mut [u8]) -> (u64, u64, u64) {
+impl Timed for Program {
+    type Room = [u8; ROOM];
+
+    fn room() -> Self::Room {
+        [0; ROOM]
+    }
+
+    fn call(self, book: &[u8], report: &mut [u8]) -> (u64, u64, u64) {
         match self {
             Program::Product => numbers(harness::product::allot(book, report)),
             Program::Second => second::allot_into(book, report),
@@ -37,7 +46,7 @@ impl Program {
     }
 }
 
-fn numbers(answer: harness::product::Answer) -> (u64, u64, u64) {
+pub fn numbers(answer: harness::product::Answer) -> (u64, u64, u64) {
     (answer.number, answer.place, answer.length)
 }
 

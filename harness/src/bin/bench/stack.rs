@@ -5,6 +5,7 @@ use std::hint::black_box;
 use std::thread;
 
 use crate::programs::{Program, ROOM};
+use crate::timing::Timed;
 
 const STACK: usize = 4 << 20;
 /// How deep is painted.

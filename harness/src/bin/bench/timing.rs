@@ -1,9 +1,7 @@
-//! Times of two programs on the same book, taken in turns in one run.
+//! Times of two programs on the same input, taken in turns in one run.
 
 use std::hint::black_box;
 use std::time::{Duration, Instant};
-
-use crate::programs::{Pair, Program, ROOM};
 
 const ROUNDS: usize = 1_001;
 const WARM_UP: Duration = Duration::from_millis(200);
@@ -18,26 +16,36 @@ pub struct Times {
     pub ninetieth: f64,
 }
 
+/// A call that can be timed: an input and a lent buffer.
+pub trait Timed: Copy {
+    type Room: AsMut<[u8]>;
+
+    fn room() -> Self::Room;
+
+    /// Number, place and length.
+    fn call(self, input: &[u8], lent: &mut [u8]) -> (u64, u64, u64);
+}
+
 /// The times of each of a pair.
-pub fn measure(pair: Pair, book: &[u8]) -> [Times; 2] {
-    let calls = pair.map(|program| calls_in_a_sample(program, book));
+pub fn measure<P: Timed>(pair: [P; 2], input: &[u8]) -> [Times; 2] {
+    let calls = pair.map(|program| calls_in_a_sample(program, input));
     let mut samples = [Vec::new(), Vec::new()];
     for round in 0..ROUNDS {
         // Who is first changes each round: neither always finds the other's traces in the caches.
         for turn in 0..2 {
             let which = (round + turn) % 2;
-            samples[which].push(sample(pair[which], book, calls[which]));
+            samples[which].push(sample(pair[which], input, calls[which]));
         }
     }
     samples.map(times)
 }
 
 /// Warms up, and answers how many calls last as long as a sample must.
-fn calls_in_a_sample(program: Program, book: &[u8]) -> u32 {
+fn calls_in_a_sample<P: Timed>(program: P, input: &[u8]) -> u32 {
     let start = Instant::now();
     let mut calls = 0;
     while start.elapsed() < WARM_UP {
-        sample(program, book, 1);
+        sample(program, input, 1);
         calls += 1;
     }
     let call = start.elapsed() / calls;
@@ -45,11 +53,12 @@ fn calls_in_a_sample(program: Program, book: &[u8]) -> u32 {
 }
 
 /// Nanoseconds a call, over so many calls.
-fn sample(program: Program, book: &[u8], calls: u32) -> f64 {
-    let mut report = [0; ROOM];
+fn sample<P: Timed>(program: P, input: &[u8], calls: u32) -> f64 {
+    let mut room = P::room();
+    let lent = room.as_mut();
     let start = Instant::now();
     for _ in 0..calls {
-        black_box(program.call(black_box(book), black_box(&mut report)));
+        black_box(program.call(black_box(input), black_box(&mut *lent)));
     }
     start.elapsed().as_nanos() as f64 / f64::from(calls)
 }
