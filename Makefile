@@ -13,7 +13,7 @@
 
 PREFIX = /usr/local
 DESTDIR =
-VERSION = 0.10.1
+VERSION = 0.11.0
 RT = rt
 RUN = .ci/x86-64
 INSTALL = install
@@ -24,6 +24,7 @@ program = target/bin/allot
 cutback = target/bin/cutback
 moves = target/bin/moves
 ladder = target/bin/ladder
+sheet = target/bin/sheet
 archive = target/staticlib/libfrundavel.a
 # the call worked in rows, for the comparison of both layouts
 rows = target/staticlib/librows.a
@@ -65,12 +66,12 @@ plain-folders = $(if $(odd-folder),$(error make $@: $(odd-folder) has one of the
 .NOTPARALLEL:
 .DELETE_ON_ERROR:
 # kept, as .PRECIOUS would keep it, but taken away where it is half written
-.SECONDARY: target/staticlib/liballot.a target/staticlib/libcutting.a target/staticlib/libmoves.a target/staticlib/libladder.a
+.SECONDARY: target/staticlib/liballot.a target/staticlib/libcutting.a target/staticlib/libmoves.a target/staticlib/libladder.a target/staticlib/libsheet.a
 
 sample: $(program)
 	$(RUN) $(program) examples/listing.book
 
-all: $(program) $(cutback) $(moves) $(ladder) $(archive) $(shared)
+all: $(program) $(cutback) $(moves) $(ladder) $(sheet) $(archive) $(shared)
 
 help:
 	@sed -n 's/^# \(make\)/\1/p' Makefile
@@ -120,6 +121,7 @@ install:
 	$(INSTALL) -m 755 $(cutback) "$(DESTDIR)$(bindir)/cutback"
 	$(INSTALL) -m 755 $(moves) "$(DESTDIR)$(bindir)/moves"
 	$(INSTALL) -m 755 $(ladder) "$(DESTDIR)$(bindir)/ladder"
+	$(INSTALL) -m 755 $(sheet) "$(DESTDIR)$(bindir)/sheet"
 	$(INSTALL) -m 755 examples/show-book "$(DESTDIR)$(bindir)/show-book"
 	$(INSTALL) -m 644 include/frundavel.h "$(DESTDIR)$(includedir)/frundavel.h"
 	$(INSTALL) -m 644 $(archive) "$(DESTDIR)$(libdir)/libfrundavel.a"
@@ -130,6 +132,7 @@ install:
 	$(INSTALL) -m 644 docs/cutback.1 "$(DESTDIR)$(mandir)/man1/cutback.1"
 	$(INSTALL) -m 644 docs/moves.1 "$(DESTDIR)$(mandir)/man1/moves.1"
 	$(INSTALL) -m 644 docs/ladder.1 "$(DESTDIR)$(mandir)/man1/ladder.1"
+	$(INSTALL) -m 644 docs/sheet.1 "$(DESTDIR)$(mandir)/man1/sheet.1"
 	$(INSTALL) -m 644 docs/frundavel.3 "$(DESTDIR)$(mandir)/man3/frundavel.3"
 	printf '%s\n' 'prefix=$(PREFIX)' 'includedir=$(call below,$(includedir))' 'libdir=$(call below,$(libdir))' '' 'Name: frundavel' \
 		'Description: Forced offsetting allotment' 'Version: $(VERSION)' 'Cflags: -I"$${includedir}"' \
@@ -145,6 +148,7 @@ uninstall:
 		"$(DESTDIR)$(libdir)/libfrundavel.so.$(VERSION)" "$(DESTDIR)$(pkgconfigdir)/frundavel.pc"
 	rm -f "$(DESTDIR)$(bindir)/moves" "$(DESTDIR)$(mandir)/man1/moves.1"
 	rm -f "$(DESTDIR)$(bindir)/ladder" "$(DESTDIR)$(mandir)/man1/ladder.1"
+	rm -f "$(DESTDIR)$(bindir)/sheet" "$(DESTDIR)$(mandir)/man1/sheet.1"
 	rm -f "$(DESTDIR)$(mandir)/man1/allot.1" "$(DESTDIR)$(mandir)/man3/frundavel.3"
 
 clean:

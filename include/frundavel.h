@@ -3,7 +3,8 @@
  *
  * frundavel_allot: a book and a lent buffer in; a number, a place and a length out. frundavel_columns: the
  * same for a viewer that reads column by column. frundavel_reason: the words for a refusal. frundavel_cutback: a customer's seats over the
- * position limit. The rules, with worked examples, are in
+ * position limit. frundavel_moves and frundavel_ladder: lists of days. frundavel_sheet_to_book and frundavel_book_to_sheet: comma
+ * sheets. The rules, with worked examples, are in
  * docs/RULES.md of the source tree. Every byte and number that a call writes, and every answer that it gives, is proved to be what the
  * definitions (crates/rules/specs, crates/columns/specs) say; docs/ASSUMPTIONS.md says what that rests on.
  *
@@ -21,10 +22,10 @@ extern "C" {
 #endif
 
 /* The version. CHANGELOG.md of the source tree says what changed with each. */
-#define FRUNDAVEL_VERSION "0.10.1"
+#define FRUNDAVEL_VERSION "0.11.0"
 #define FRUNDAVEL_VERSION_MAJOR 0
-#define FRUNDAVEL_VERSION_MINOR 10
-#define FRUNDAVEL_VERSION_PATCH 1
+#define FRUNDAVEL_VERSION_MINOR 11
+#define FRUNDAVEL_VERSION_PATCH 0
 
 /* A book has at most so many bytes; a longer one is refused with number 1. Reading one byte more than this is enough to see it. */
 #define FRUNDAVEL_LONGEST_BOOK 60000
@@ -82,7 +83,8 @@ enum frundavel_number {
  * The answer of a call.
  *
  * number 0: accepted. place is 0, and length is the length of what was written.
- * Any other number: refused. length is 0, and place says where, as a count of bytes from the front of the book.
+ * Any other number: refused. length is 0, and place says where, as a count of bytes from the front of the book. Where another call of this
+ * header counts otherwise it says so: frundavel_sheet_to_book leaves a refused book, with its length, and counts lines of a sheet.
  *
  *   number  given exactly when                                              place
  *        1  the book has more than 60,000 bytes                             0
@@ -137,12 +139,13 @@ frundavel_answer frundavel_allot(const uint8_t *book, size_t size, uint8_t *repo
 /*
  * Puts the words for a number at the front of the `room` bytes lent at `words`, with no zero byte after them: `a comma in the loss edge L`.
  *
- * - `number` and `place` are those that a call answered, and `book` is the book that it was given: the byte at the place says the field.
+ * - `number` and `place` are those that a call answered, and `book` is the book that it was given, or made: the byte at the place says the
+ *   field.
  *   With another book, or a place past its end, the words may be of another field or of none. A number from 14 on names no field, so that
  *   no book is needed: a null pointer with length 0.
  * - The answer is number 0, place 0 and the length of the words; or 11 with the length needed as place, length 0 and no byte altered,
  *   where the words are longer than the room. Bytes of the buffer after the words are unaltered.
- * - Every number has words, those of lists and of cutting back too: 0 is `accepted`, and one that no call answers is `no such number`. They
+ * - Every number has words, those of sheets, of lists and of cutting back too: 0 is `accepted`, and one that no call answers is `no such number`. They
  *   are ASCII, in English, of one line without a line feed. Later versions may put other words; a program that has to decide looks at the
  *   number.
  * - Of pointers, threads and what is called the same holds as above. `book` and `words` must not overlap. It takes at most 1,536 bytes of
@@ -257,6 +260,47 @@ enum frundavel_step {
  *   and held by a test).
  */
 frundavel_answer frundavel_ladder(const uint8_t *list, size_t size, uint64_t *steps, size_t places);
+
+/* The numbers of a comma sheet, besides those of the table. */
+enum frundavel_sheet_number {
+    FRUNDAVEL_SHEET_NO_MARK = 20,
+    FRUNDAVEL_SHEET_OTHER_MARK = 21,
+    FRUNDAVEL_SHEET_NO_LINE = 22,
+    FRUNDAVEL_SHEET_NO_RESULT = 23
+};
+
+/* A room that is enough for the book of every sheet, and for the sheet of every book: neither call with it answers 23 (proved). */
+#define FRUNDAVEL_SHEET_ROOM 120000
+
+/*
+ * Reads a comma sheet of `size` bytes and writes the book that it makes at the front of the `room` bytes lent at `book`
+ * (docs/SHEETS.md has the form of a sheet).
+ *
+ *     number  given exactly when                                                                     place
+ *          1  the sheet has more than 60,000 bytes                                                   0
+ *         20  the first line is neither `mark,` nor `mark.` with its line feed                       1
+ *         22  a line's letter is none of a sheet's, it has another number of parts, or no line feed  the line's number; the mark line is 1
+ *         21  the other mark stands in a price, rate or lots figure                                  the line's number
+ *         23  the book is longer than the room                                                       0
+ *
+ * - 1 comes first, then 20; then the first bad line decides, 22 before its 21; then 23. Length is 0 then, and no byte is altered.
+ * - Otherwise the book stands in the buffer, length is its length, and the rest of the buffer is unaltered. Number and place are those that
+ *   the table above has for the book, 11 aside: 0 and 0 where it is accepted, and the place counts from the front of the book.
+ * - Of pointers, memory and threads the same holds as above. `sheet` and `book` must not overlap. It takes at most 8,192 bytes of the
+ *   calling thread's stack (measured, and held by a test).
+ */
+frundavel_answer frundavel_sheet_to_book(const uint8_t *sheet, size_t size, uint8_t *book, size_t room);
+
+/*
+ * Judges the book of `size` bytes and, where it is accepted, writes it as a sheet at the front of the `room` bytes lent at `sheet`. `mark` is
+ * the byte that stands for the point in its figures: a comma or a point.
+ *
+ * - Accepted: number 0, place 0, and length is the sheet's, at most 60,000. The rest of the buffer is unaltered.
+ * - 20 at 0, before all else: the mark is another byte. Then number and place of the table, 11 aside. Then 23 at 0: the sheet is longer than
+ *   the room. Length is 0 then, and no byte of the buffer is altered.
+ * - Of pointers, memory, threads and the stack the same holds. `book` and `sheet` must not overlap.
+ */
+frundavel_answer frundavel_book_to_sheet(const uint8_t *book, size_t size, uint8_t mark, uint8_t *sheet, size_t room);
 
 #ifdef __cplusplus
 }
