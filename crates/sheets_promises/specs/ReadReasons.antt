@@ -3,7 +3,7 @@
 -- Assumes nothing.
 use Prim.Native.Nat.{ℕ, _≤_, _<_}
 use mathlib.Core.Logic.{_↔_}
-use mathlib.Core.Path.{_≡_, refl, ap, subst, _∙_}
+use mathlib.Core.Path.{_≡_, refl, sym, ap, subst, _∙_}
 use mathlib.Core.List.{List}
 use mathlib.Core.Bool.{Bool, true, false, cond}
 use native.Mathlib.Omega.{arith}
@@ -70,3 +70,13 @@ module _ (s : List ℕ) (room : ℕ) where
       go a (no-space r h) e = absurd (omega arith)
       go a (bad-left {b = b} {n = k} {p = p} r h j) e = absurd (omega (arith, refused-above b k p j))
       go a (good-left {b = b} r h g) e = (b, r, g, h)
+
+  -- and with their places, nothing written
+  pub own-answers : (n p : ℕ) → 20 ≤ n → n ≤ 22 → (toBook s room ≡ refused n p) ↔ Reason s n p
+  own-answers n p low high = (there, λ x. sheet-refused s room n p (refused-because s n p .1 x))
+    where
+      there : toBook s room ≡ refused n p → Reason s n p
+      there e =
+          let (q, x) = own-numbers n low high .0 (ap (λ (a : Answer). a .number) e) in
+          let same : refused n q ≡ refused n p = sym (sheet-refused s room n q (refused-because s n q .1 x)) ∙ e in
+          subst (λ (k : ℕ). Reason s n k) (ap (λ (a : Answer). a .place) same) x
