@@ -1,7 +1,7 @@
 -- What the tests of a call come to is its answer.
 -- Assumes nothing.
-use Prim.Native.Nat.{ℕ, _+_, _≤_, _<_}
-use mathlib.Core.Path.{_≡_, refl, sym, ap, subst, _∙_}
+use Prim.Native.Nat.{ℕ, _+_}
+use mathlib.Core.Path.{_≡_, refl, sym, ap, _∙_}
 use mathlib.Core.Bool.{Bool, true, false, cond}
 use mathlib.Core.List.{List}
 use native.Mathlib.Omega.{arith}
@@ -15,7 +15,6 @@ use Rattle.rules.specs.Answer.{refused as refused01}
 use Rattle.laws.specs.Sane.{refused-above}
 use Rattle.fields.specs.declared.Refusal.{Refusal}
 use Rattle.writing.specs.Written.{Wrote, written-front}
-use Rattle.sheets.specs.declared.Found.{Found}
 use Rattle.sheets.specs.Refusal as refusal
 use Rattle.sheets.specs.Mark.{isMark}
 use Rattle.sheets.specs.Write.{sheetOf}

@@ -1,11 +1,10 @@
 -- The book that a sheet makes, as it stands in the buffer, is judged; and what is answered is the answer.
 -- Assumes nothing.
-use Prim.Native.Nat.{ℕ, _+_, _≤_}
+use Prim.Native.Nat.{ℕ, _≤_}
 use mathlib.Core.Path.{_≡_, refl, sym, ap, _∙_}
 use mathlib.Core.Bool.{Bool, true, false, cond}
-use mathlib.Core.List.{List, _++_}
+use mathlib.Core.List.{List}
 use native.Mathlib.Omega.{arith}
-use native.Mathlib.Nat.{zero-add}
 use borrow.Author.Tests.{ltb-false}
 use lib.Dec.{ltb}
 use lib.ListN.{length, take, drop}
@@ -14,7 +13,6 @@ use Rattle.rules.specs.Book.{Verdict, judge}
 use Rattle.rules.specs.Book.{Refused as BookRefused}
 use Rattle.rules.specs.Book.{Accepted as BookAccepted}
 use Rattle.rules.specs.Answer.{refused as refused01}
-use Rattle.laws.specs.ByTest.{by-test}
 use Rattle.fields.specs.declared.Refusal.{Refusal}
 use Rattle.writing.specs.Written.{Wrote, written, written-front, written-length}
 use Rattle.sheets.specs.declared.reading.Made.{Made}

@@ -1,6 +1,5 @@
 -- By its tag a value's points and blanks become other bytes, or nothing does.
 -- Assumes nothing.
-use Prim.Native.Nat.{ℕ}
 use mathlib.Core.Path.{_≡_, sym, _∙_}
 use mathlib.Core.Bool.{true, false}
 use borrow.Author.Needs.{needs}

@@ -1,6 +1,6 @@
 -- Tag by tag.
 -- Assumes nothing.
-use mathlib.Core.Path.{_≡_, sym}
+use mathlib.Core.Path.{sym}
 use borrow.Author.Needs.{needs}
 use Rattle.sheets.proofs.Tags.{size-i, size-k, size-h, size-q, size-z, size-line}
 use Rattle.sheets.proofs.shown.shown_size.Statement.{statement}
