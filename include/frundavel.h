@@ -132,7 +132,7 @@ typedef struct frundavel_answer {
  * - The value of a trade in the book is a price, lots, the trading day and the time: `400.00 5 20250115 1000`. A customer's trades may
  *   stand in any order. Before version 0.4.0 a trade had neither day nor time, and the order in the book was that of time.
  * - The call keeps nothing, allocates nothing and calls nothing but memcpy, memmove and memset. It may be called from several threads
- *   at once. It takes at most 16,384 bytes of the calling thread's stack (measured, and held by a test; docs/BENCHMARKS.md).
+ *   at once. It takes at most 14,336 bytes of the calling thread's stack (measured, and held by a test; docs/BENCHMARKS.md).
  */
 frundavel_answer frundavel_allot(const uint8_t *book, size_t size, uint8_t *report, size_t room);
 

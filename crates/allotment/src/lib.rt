@@ -1,6 +1,5 @@
 // The call: a book and a lent buffer in; a number, a place and a length out.
 use cascade::Cascade;
-use fields::Refusal;
 use rules::MOST_CUSTOMERS;
 use rules::refusal;
 ghost use mathlib.Core.Path.{_≡_};
@@ -11,11 +10,9 @@ ghost use Rattle.rules.specs.Answer.{fitted, answer};
 ghost use Rattle.rules.specs.Report.{listing};
 ghost use Rattle.cascade.specs.Columns.{columns};
 ghost use Rattle.cascade.specs.State.{Steady};
-ghost use Rattle.roll.specs.Roll.{Room, filledBy};
-ghost use Rattle.roll.specs.Roll.{columns as filledWith};
 ghost use Rattle.report.specs.Sheet.{sheet, reportBytes, Placed};
 ghost use Rattle.allotment.specs.Answered.{Answered, Listed, Judged};
-ghost use Rattle.allotment.specs.Worked.{listingRoom, reportRoom, atFirst, closedOf, CameOut};
+ghost use Rattle.allotment.specs.Worked.{listingRoom, reportRoom, atFirst, closedOf};
 
 // A buffer that every listing fits: 256 lines of at most 26 bytes, and at most 33 before them.
 pub const LISTING_ROOM: usize = 8_192;
@@ -30,16 +27,6 @@ pub struct Closed {
     pub residue: u64,
 }
 
-// What a book comes to: a refusal, or number 0, how it is locked, and what its customers have offset.
-pub struct Worked {
-    pub refusal: Refusal,
-    pub count: usize,
-    pub down: bool,
-    pub offset: [u32; MOST_CUSTOMERS],
-    pub total: u64,
-    pub residue: u64,
-}
-
 // `owed` less `total`, and nothing where that is more.
 fn less(owed: u64, total: u64) -> u64
     ensures { λ r. ⌜ r ≡ owed - total ⌝ }
@@ -47,8 +34,9 @@ fn less(owed: u64, total: u64) -> u64
     if total < owed { owed - total } else { 0 }
 }
 
-// The cascade over the customers in the columns, or in rows made of them.
-fn close(keys: &[u64], standings: &[u8], stakes: &[u32], count: usize, in_rows: bool) -> Closed
+// The cascade over the customers in the columns, or in rows made of them. Columns take less time and stack (docs/BENCHMARKS.md).
+// Who calls it has read the roll before, as a call of its own: what one of the two has on the stack the other does not pay for.
+pub fn close(keys: &[u64], standings: &[u8], stakes: &[u32], count: usize, in_rows: bool) -> Closed
     requires { ⌜ Steady 0 (columns (now keys) (now standings) (now stakes) count) atFirst ⌝ }
     ensures { λ r. ⌜ r ≡ closedOf (columns (now (keys .entry)) (now (standings .entry)) (now (stakes .entry)) count) ⌝ }
 {
@@ -65,57 +53,6 @@ fn close(keys: &[u64], standings: &[u8], stakes: &[u32], count: usize, in_rows: 
         total: total,
         residue: less(owed, total),
     }
-}
-
-// What a book comes to: its roll in the columns, run through the cascade, which works in rows or in columns.
-pub fn work_out_in(
-    book: &[u8],
-    keys: &mut [u64],
-    starts: &mut [u16],
-    standings: &mut [u8],
-    stakes: &mut [u32],
-    in_rows: bool,
-) -> Worked
-    requires { ⌜ Room (now keys) (now starts) (now standings) (now stakes) ⌝ }
-    ensures { λ r. ⌜ CameOut (now (book .entry)) (judge (now (book .entry))) (filledBy (now (book .entry)) (filledWith (now (keys .entry)) (now (starts .entry)) (now (standings .entry)) (now (stakes .entry)))) (now (keys .exit)) (now (starts .exit)) (now (standings .exit)) (now (stakes .exit)) r ⌝ }
-{
-    let roll = roll::read_roll(book, keys, starts, standings, stakes);
-    let refusal = roll.refusal;
-    let count = roll.count;
-    if refusal.number != 0 {
-        return Worked {
-            refusal: refusal,
-            count: 0,
-            down: false,
-            offset: [0u32; MOST_CUSTOMERS],
-            total: 0,
-            residue: 0,
-        };
-    }
-    let closed = close(keys, standings, stakes, count, in_rows);
-    let offset = closed.offset;
-    Worked {
-        refusal: refusal,
-        count: count,
-        down: roll.down,
-        offset: offset,
-        total: closed.total,
-        residue: closed.residue,
-    }
-}
-
-// The same in columns, which take less time and stack than rows (docs/BENCHMARKS.md).
-pub fn work_out(
-    book: &[u8],
-    keys: &mut [u64],
-    starts: &mut [u16],
-    standings: &mut [u8],
-    stakes: &mut [u32],
-) -> Worked
-    requires { ⌜ Room (now keys) (now starts) (now standings) (now stakes) ⌝ }
-    ensures { λ r. ⌜ CameOut (now (book .entry)) (judge (now (book .entry))) (filledBy (now (book .entry)) (filledWith (now (keys .entry)) (now (starts .entry)) (now (standings .entry)) (now (stakes .entry)))) (now (keys .exit)) (now (starts .exit)) (now (standings .exit)) (now (stakes .exit)) r ⌝ }
-{
-    work_out_in(book, keys, starts, standings, stakes, false)
 }
 
 // The answer of a call. Accepted: 0, place 0 and the report's length. Refused: the number, its place and length 0; for 11 the place
@@ -229,15 +166,8 @@ pub fn allot_in(book: &[u8], report: &mut [u8], in_rows: bool) -> Answer
     let mut starts = [0u16; MOST_CUSTOMERS];
     let mut standings = [0u8; MOST_CUSTOMERS];
     let mut stakes = [0u32; MOST_CUSTOMERS];
-    let worked = work_out_in(
-        book,
-        &mut keys,
-        &mut starts,
-        &mut standings,
-        &mut stakes,
-        in_rows,
-    );
-    let refused = worked.refusal;
+    let roll = roll::read_roll(book, &mut keys, &mut starts, &mut standings, &mut stakes);
+    let refused = roll.refusal;
     if refused.number != refusal::ACCEPTED {
         return Answer {
             number: refused.number,
@@ -245,17 +175,18 @@ pub fn allot_in(book: &[u8], report: &mut [u8], in_rows: bool) -> Answer
             length: 0,
         };
     }
-    let offset = worked.offset;
-    let long = !worked.down;
+    let count = roll.count;
+    let closed = close(&keys, &standings, &stakes, count, in_rows);
+    let offset = closed.offset;
     report_lines(
         book,
         &starts,
         &standings,
         &offset,
-        worked.count,
-        worked.total,
-        worked.residue,
-        long,
+        count,
+        closed.total,
+        closed.residue,
+        !roll.down,
         report,
     )
 }
@@ -284,8 +215,8 @@ pub fn list(book: &[u8], out: &mut [u8]) -> Listing
     let mut starts = [0u16; MOST_CUSTOMERS];
     let mut standings = [0u8; MOST_CUSTOMERS];
     let mut stakes = [0u32; MOST_CUSTOMERS];
-    let worked = work_out(book, &mut keys, &mut starts, &mut standings, &mut stakes);
-    let stopped = worked.refusal;
+    let roll = roll::read_roll(book, &mut keys, &mut starts, &mut standings, &mut stakes);
+    let stopped = roll.refusal;
     if stopped.number != refusal::ACCEPTED {
         return Listing {
             number: stopped.number,
@@ -293,8 +224,9 @@ pub fn list(book: &[u8], out: &mut [u8]) -> Listing
             length: printing::put_refusal(out, stopped.number, stopped.place as u64),
         };
     }
-    let offset = worked.offset;
-    let long = !worked.down;
+    let count = roll.count;
+    let closed = close(&keys, &standings, &stakes, count, false);
+    let offset = closed.offset;
     Listing {
         number: refusal::ACCEPTED,
         place: 0,
@@ -304,10 +236,10 @@ pub fn list(book: &[u8], out: &mut [u8]) -> Listing
             &starts,
             &standings,
             &offset,
-            worked.count,
-            worked.total,
-            worked.residue,
-            long,
+            count,
+            closed.total,
+            closed.residue,
+            !roll.down,
             true,
         ),
     }

@@ -126,8 +126,8 @@ pub fn columns(
     let mut starts = [0u16; MOST_CUSTOMERS];
     let mut bytes = [0u8; MOST_CUSTOMERS];
     let mut stakes = [0u32; MOST_CUSTOMERS];
-    let worked = allotment::work_out(book, &mut keys, &mut starts, &mut bytes, &mut stakes);
-    let refused = worked.refusal;
+    let roll = roll::read_roll(book, &mut keys, &mut starts, &mut bytes, &mut stakes);
+    let refused = roll.refusal;
     if refused.number != refusal::ACCEPTED {
         return Answer {
             number: refused.number,
@@ -135,12 +135,14 @@ pub fn columns(
             length: 0,
         };
     }
-    let offset = worked.offset;
+    let count = roll.count;
+    let closed = allotment::close(&keys, &bytes, &stakes, count, false);
+    let offset = closed.offset;
     show(
         &bytes,
         &stakes,
         &offset,
-        worked.count,
+        count,
         standings,
         offered,
         pending,

@@ -8,14 +8,10 @@ use Rattle.rules.specs.Book.{Verdict, Refused, Accepted, judge}
 use Rattle.writing.specs.Written.{Wrote}
 use Rattle.roll.specs.declared.Roll.{Roll}
 use Rattle.roll.specs.Roll.{Columns, Rolled}
-use Rattle.roll.specs.Roll.{columns as rollColumns}
 use Rattle.rules.specs.Answer.{Answer as Answer01}
 use Rattle.allotment.specs.declared.Answer.{Answer}
 use Rattle.allotment.specs.declared.Listing.{Listing}
 use Rattle.allotment.specs.Answered.{Answered, Judged}
-use Rattle.allotment.specs.declared.Worked.{Worked}
-use Rattle.allotment.specs.Worked.{workedIn, Came, CameOut}
-use Rattle.cascade.specs.Columns.{columns as cascadeColumns}
 use Rattle.columns.specs.View.{Runs, runs, Viewed}
 use Rattle.division.proofs as division
 use Rattle.cascade.proofs as cascade
@@ -151,26 +147,9 @@ report-length κs a r q s t e f = (e ∙ sym f, refl)
 pub put-sheet : Determined report.put_sheet.ended report.put_sheet.Reads.Learnt
 put-sheet κs a r q s t e f = wrote e f
 
--- allotment: what a book comes to is determined by the columns that it fills
-module _ (book : List ℕ) (r q : Worked) where
-  same-worked : (v : Verdict) (c d : Columns) → c ≡ d → Came book v (c .keys) (c .starts) (c .standings) (c .stakes) r →
-      Came book v (d .keys) (d .starts) (d .standings) (d .stakes) q → r ≡ q
-  same-worked (Refused number place) c d same e f = e ∙ sym f
-  same-worked (Accepted terms cs) c d same e f =
-      let n = e .1 .counted ∙ sym (f .1 .counted) in
-      e .0 ∙ (λ i. workedIn (terms .down) (cascadeColumns (same i .keys) (same i .standings) (same i .stakes) (n i))) ∙ sym (f .0)
-
-came-out : {book : List ℕ} {r q : Worked} {full : Columns} {k l m n k′ l′ m′ n′ : List ℕ} → CameOut book (judge book) full k l m n r → CameOut book (judge book) full k′ l′ m′ n′ q →
-    (r ≡ q) × (rollColumns k l m n ≡ rollColumns k′ l′ m′ n′)
-came-out {book} {r} {q} e f = let same = e .filled ∙ sym (f .filled) in (same-worked book r q (judge book) _ _ same (e .came) (f .came), same)
-
-pub work-out : Determined allotment.work_out.ended allotment.work_out.Reads.Learnt
-work-out κs a r q s t e f =
-    let same = came-out e f in (same .0, ap (λ (c : Columns). (tt, (c .keys, (c .starts, (c .standings, (c .stakes, tt)))))) (same .1))
-
-pub work-out-in : Determined allotment.work_out_in.ended allotment.work_out_in.Reads.Learnt
-work-out-in κs a r q s t e f =
-    let same = came-out e f in (same .0, ap (λ (c : Columns). (tt, (c .keys, (c .starts, (c .standings, (c .stakes, (tt, tt))))))) (same .1))
+-- allotment
+pub close : Determined allotment.close.ended allotment.close.Reads.Learnt
+close κs a r q s t e f = (e ∙ sym f, refl)
 
 same-listing : (v : Verdict) (r q : Listing) → r .length ≡ q .length → Judged v (r .number) (r .place) → Judged v (q .number) (q .place) → r ≡ q
 same-listing (Refused n place) r q l e f = λ i. record { number = (e .0 ∙ sym (f .0)) i; place = (e .1 ∙ sym (f .1)) i; length = l i }

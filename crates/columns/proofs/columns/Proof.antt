@@ -1,11 +1,13 @@
--- What the book comes to is the view.
+-- The roll, and the cascade over its columns, are the view.
 -- Assumes nothing.
 use Prim.Native.Nat.{ℕ}
 use mathlib.Core.Path.{_≡_, sym, subst}
 use mathlib.Core.List.{List}
 use native.Mathlib.Omega.{arith}
 use Rattle.rules.specs.Answer.{Answer as Answer01}
+use Rattle.roll.specs.Roll.{Room}
 use Rattle.allotment.specs.declared.Answer.{Answer}
+use Rattle.allotment.specs.Rolls.{refuses, Accepts, accepts, steady, shows}
 use Rattle.columns.specs.View.{Runs, Viewed}
 use Rattle.columns.proofs.Fitting.{refused-so}
 use Rattle.columns.proofs.Views.{stops, Goes, goes}
@@ -13,40 +15,68 @@ use borrow.Author.Needs.{needs}
 use Rattle.columns.proofs.columns.Statement.{statement}
 use Rattle.columns.proofs.columns.Tie as tie
 
-abbrev came : tie.After-struct-known → tie.After-work-out
-came k = k .before .before .before .before .before .before
+abbrev rolled : tie.After-struct-known → tie.After-read-roll
+rolled k = k .before .before .before .before .before .before
 
-abbrev begin : tie.After-work-out → tie.Start
-begin w = w .before .before .before .before .before .before .before .before .before .before
+abbrev begin : tie.After-read-roll → tie.Start
+begin r = r .before .before .before .before .before .before .before .before .before .before
 
-gone : (c : tie.Else1) → let w = came (c .before) in let l = w .work-out .last .1 in
-    Goes (begin w .args .book .now) (l .0) (l .1 .0) (l .1 .1 .0) (l .1 .1 .1 .0) (w .work-out .result) (w .work-out .ensures .came)
-gone c = let w = came (c .before) in let l = w .work-out .last .1 in goes (begin w .args .book .now) (l .0) (l .1 .0) (l .1 .1 .0) (l .1 .1 .1 .0) (w .work-out .result) (w .work-out .ensures .came) (c .if1 .left)
+wide : (r : tie.After-read-roll) → let l = r .read-roll .last .1 in Room (l .0) (l .1 .0) (l .1 .1 .0) (l .1 .1 .1 .0)
+wide r = search needs
+
+accepted : (e : tie.Else1) → let r = rolled (e .before) in let l = r .read-roll .last .1 in
+    Accepts (begin r .args .book .now) (l .0) (l .1 .0) (l .1 .1 .0) (l .1 .1 .1 .0) (r .read-roll .result) (r .read-roll .ensures .rolled)
+accepted e = let r = rolled (e .before) in let l = r .read-roll .last .1 in
+    accepts (begin r .args .book .now) (l .0) (l .1 .0) (l .1 .1 .0) (l .1 .1 .1 .0) (r .read-roll .result) (r .read-roll .ensures .rolled) (e .if1 .left)
+
+abbrev left : tie.After-close → tie.Else1
+left d = d .before .before .before .before
+
+gone : (d : tie.After-close) → let r = rolled (left d .before) in let l = r .read-roll .last .1 in
+    Goes (begin r .args .book .now) (l .1 .1 .0) (l .1 .1 .1 .0) (r .read-roll .result .count) (d .close .result)
+gone d = let r = rolled (left d .before) in let l = r .read-roll .last .1 in let a = accepted (left d) in
+    goes (a .accepted) (shows (begin r .args .book .now) (l .0) (l .1 .0) (l .1 .1 .0) (l .1 .1 .1 .0) (r .read-roll .result) (r .read-roll .ensures .rolled) a (wide r) (d .close .result) (d .close .ensures))
 
 -- the answers to all runs are the same ones
 same : {a b : (Runs → List ℕ) → Answer01} {entry exit : Runs} {r : Answer} → a ≡ b → Viewed b entry exit r → Viewed a entry exit r
 same {a} {b} {entry} {exit} {r} e v = subst (λ (f : (Runs → List ℕ) → Answer01). Viewed f entry exit r) (sym e) v
 
-slice-aggregate-work-out : tie.Need-slice-aggregate-work-out
-slice-aggregate-work-out c = search needs
+slice-aggregate-read-roll : tie.Need-slice-aggregate-read-roll
+slice-aggregate-read-roll c = search needs
 
-slice-aggregate-work-out-2 : tie.Need-slice-aggregate-work-out-2
-slice-aggregate-work-out-2 c = search needs
+slice-aggregate-read-roll-2 : tie.Need-slice-aggregate-read-roll-2
+slice-aggregate-read-roll-2 c = search needs
 
-slice-aggregate-work-out-3 : tie.Need-slice-aggregate-work-out-3
-slice-aggregate-work-out-3 c = search needs
+slice-aggregate-read-roll-3 : tie.Need-slice-aggregate-read-roll-3
+slice-aggregate-read-roll-3 c = search needs
 
-slice-aggregate-work-out-4 : tie.Need-slice-aggregate-work-out-4
-slice-aggregate-work-out-4 c = search needs
+slice-aggregate-read-roll-4 : tie.Need-slice-aggregate-read-roll-4
+slice-aggregate-read-roll-4 c = search needs
 
-work-out-requires : tie.Need-work-out-requires
-work-out-requires c κs = search needs
+read-roll-requires : tie.Need-read-roll-requires
+read-roll-requires c κs = search needs
 
 returns : tie.Need-returns
 returns c =
-    let w = came (c .before) in
-    let l = w .work-out .last .1 in
-    same (stops (begin w .args .book .now) (l .0) (l .1 .0) (l .1 .1 .0) (l .1 .1 .1 .0) (w .work-out .result) (w .work-out .ensures .came) (c .if1 .taken) _) (refused-so _ _ _)
+    let r = rolled (c .before) in
+    let l = r .read-roll .last .1 in
+    same (stops (begin r .args .book .now) (refuses (begin r .args .book .now) (l .0) (l .1 .0) (l .1 .1 .0) (l .1 .1 .1 .0) (r .read-roll .result) (r .read-roll .ensures .rolled) (c .if1 .taken)) _) (refused-so _ _ _)
+
+slice-aggregate-close : tie.Need-slice-aggregate-close
+slice-aggregate-close c = search needs
+
+slice-aggregate-close-2 : tie.Need-slice-aggregate-close-2
+slice-aggregate-close-2 c = search needs
+
+slice-aggregate-close-3 : tie.Need-slice-aggregate-close-3
+slice-aggregate-close-3 c = search needs
+
+close-requires : tie.Need-close-requires
+close-requires c κs =
+    let e = c .before .before .before in
+    let r = rolled (e .before) in
+    let l = r .read-roll .last .1 in
+    steady (begin r .args .book .now) (l .0) (l .1 .0) (l .1 .1 .0) (l .1 .1 .1 .0) (r .read-roll .result) (r .read-roll .ensures .rolled) (accepted e) (wide r)
 
 slice-aggregate-show : tie.Need-slice-aggregate-show
 slice-aggregate-show c = search needs
@@ -83,12 +113,16 @@ pub columns-spec : {M : Type 1} → statement M
 columns-spec =
     tie.close
     (tie.spec
-    slice-aggregate-work-out
-    slice-aggregate-work-out-2
-    slice-aggregate-work-out-3
-    slice-aggregate-work-out-4
-    work-out-requires
+    slice-aggregate-read-roll
+    slice-aggregate-read-roll-2
+    slice-aggregate-read-roll-3
+    slice-aggregate-read-roll-4
+    read-roll-requires
     returns
+    slice-aggregate-close
+    slice-aggregate-close-2
+    slice-aggregate-close-3
+    close-requires
     slice-aggregate-show
     slice-aggregate-show-2
     slice-aggregate-show-3

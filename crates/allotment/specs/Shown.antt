@@ -39,8 +39,8 @@ use Rattle.entries.specs.Entries.{reportHead, reported-shown, report-head}
 use Rattle.printing.specs.Printed.{listedHead, printed-shown, listed-head}
 use Rattle.report.specs.Sheet.{sizeAt, lineFrom, Sheet, sheet, lineAt, sheetBytes, reportBytes, listingBytes, Seated, Placed}
 use Rattle.allotment.specs.Worked.{atFirst}
-use Rattle.allotment.proofs.Start.{nobody, at, sane-at, in-order, lines-are, few, standing-at, start-steady, code-in, code-short}
-use Rattle.allotment.proofs.Sides.{side-is}
+use Rattle.allotment.specs.Start.{nobody, at, sane-at, in-order, lines-are, few, standing-at, start-steady, code-in, code-short}
+use Rattle.allotment.specs.Sides.{side-is}
 
 -- lines that look the same one by one are the same bytes
 joined-map : (f : Line → List ℕ) (l : List Line) → joined f l ≡ joined (λ v. v) (map f l)

@@ -24,8 +24,8 @@ use Rattle.writing.specs.Shown.{joined-append}
 use Rattle.printing.specs.Printed.{printed-length, listed-head-length}
 use Rattle.report.specs.Sheet.{sizeAt, lineAt, sheetBytes, listingBytes}
 use Rattle.allotment.specs.Worked.{listingRoom, atFirst}
-use Rattle.allotment.proofs.Start.{start-steady}
-use Rattle.allotment.proofs.Shown.{page, seated}
+use Rattle.allotment.specs.Start.{start-steady}
+use Rattle.allotment.specs.Shown.{page, seated}
 
 -- n lines of at most b bytes
 joined-most : (f : Line → List ℕ) (g : ℕ → Line) (b n : ℕ) → ((i : ℕ) → i < n → length (f (g i)) ≤ b) → length (joined f (map g (upTo n))) ≤ b * n
