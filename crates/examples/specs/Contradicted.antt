@@ -153,7 +153,7 @@ contradicted = none-given wrong (
     & so & so & so & so & so & so & so & so & so & so & so & so & so & so & so & so & done)
 
 -- What the program's `list` leaves at the front of the buffer, as many bytes as it says, is the listing: a refused book is not listed as one
--- without customers.
+-- without customers, and an accepted one is not left as its report.
 module _ (κs : Lfts 2) (a : Args allotment.list.signature κs) (r : Listing) (s : AtExit allotment.list.ended κs) (h : allotment.list.Reads.Learnt κs a r s) where
   pub listed : take (r .length) (now (s .1 .0)) ≡ listing (now (a .0))
   listed =
@@ -165,3 +165,9 @@ module _ (κs : Lfts 2) (a : Args allotment.list.signature κs) (r : Listing) (s
   not-without-customers book shown =
       let refused : listing (now (a .0)) ≡ bytes "refused 4 at 17\n" = ap listing book in
       absurd (omega (arith, ap length (sym shown ∙ listed ∙ refused)))
+
+  pub not-the-report : now (a .0) ≡ sound → take (r .length) (now (s .1 .0)) ≡ right → ⊥
+  unfolding writtenOf figureOf openingOf stampOf isCode fieldsOf within step judge gainFrom totalGain standing leftOver rank shareOf share lineOf quantity after cascade outcome digits seatLots reportedSeat reported listing
+  not-the-report book shown =
+      let accepted : listing (now (a .0)) ≡ bytes "total 9\nleft 1\nW3 3 1\nP2 P 3\nW1 1 3\nP1 P 6\nW2 2 5\n" = ap listing book in
+      absurd (omega (arith, ap length (sym shown ∙ listed ∙ accepted)))
