@@ -40,7 +40,7 @@ pub fn close(keys: &[u64], standings: &[u8], stakes: &[u32], count: usize, in_ro
     requires { ⌜ Steady 0 (columns (now keys) (now standings) (now stakes) count) atFirst ⌝ }
     ensures { λ r. ⌜ r ≡ closedOf (columns (now (keys .entry)) (now (standings .entry)) (now (stakes .entry)) count) ⌝ }
 {
-    let owed = cascade::owed(standings, stakes, count);
+    let owed = cascade::staked(standings, stakes, count, 0);
     let start = Cascade {
         offset: [0u32; MOST_CUSTOMERS],
         total: 0,

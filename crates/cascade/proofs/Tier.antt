@@ -16,7 +16,7 @@ use Rattle.division.specs.Shares.{at, codeAt, shareAt, Lent}
 use Rattle.cascade.proofs.Weights.{weight-le}
 use Rattle.cascade.specs.declared.Cascade.{Cascade}
 use Rattle.cascade.specs.Columns.{Columns, standingOf, pendingAs, lineAt, linesOf}
-use Rattle.cascade.specs.State.{offsetOf, afterTier, Steady, Staked, Weighed, Open, weightAt, dealtAt}
+use Rattle.cascade.specs.State.{offsetOf, afterTier, Steady, Staked, Weighed, Open, weightAt, stakeAt, dealtAt}
 use Rattle.cascade.specs.After.{state-is, idle, offered-byte, pending-byte, weight-offered, givesOf, closesOf, closes-le, lineAfter, offset-is, offset-after, total-after, quantity-le, more-le}
 
 pub staked : {most : ℕ} {c : Columns} {st : Cascade} → Steady most c st → Staked (c .standings) (c .stakes) (st .offset) (c .count)
@@ -57,6 +57,11 @@ pub record Found (k : ℕ) (c : Columns) (st : Cascade) (x offered pending : ℕ
   pub offers : offered ≡ sumOf (weightAt k (c .standings) (c .stakes) (st .offset)) (upTo (c .count))
   pub waits : pending ≡ sumOf (weightAt 0 (c .standings) (c .stakes) (st .offset)) (upTo (c .count))
   pub smaller : x ≡ min pending offered
+
+-- what is offered in a tier is what is at stake in it, whatever is offset
+pub offers-are : (k : ℕ) → 0 < k → (standings stakes offset : List ℕ) (count : ℕ) →
+    sumOf (stakeAt k standings stakes) (upTo count) ≡ sumOf (weightAt k standings stakes offset) (upTo count)
+offers-are k h standings stakes offset count = sum-below _ _ count (λ i l. sym (weight-offered k (at standings i) (at stakes i) (at offset i) h))
 
 module _ {k : ℕ} {c : Columns} {st : Cascade} {x offered pending : ℕ} (f : Found k c st x offered pending) where
   abbrev ls : List Line
@@ -161,3 +166,9 @@ module _ {k : ℕ} {c : Columns} {st : Cascade} {x offered pending : ℕ} (f : F
             state-is k c st
             (z ∙ ap (filled (dealtAt (c .keys) weights′ (c .count) x mid) (c .count)) e ∙ filled-filled _ _ (c .count) (st .offset) ∙ ap (λ p. p ++ drop (c .count) (st .offset)) (map-below _ _ (c .count) same-at) ∙ sym (offset-after k c st))
             (omega (arith, total-after k c st, x-is))
+
+-- a tier that nobody is in changes nothing
+pub nobody : {k : ℕ} {c : Columns} {st : Cascade} {offered : ℕ} → Steady 4_000_000_000 c st → 0 < k → k ≤ 3 →
+    offered ≡ sumOf (stakeAt k (c .standings) (c .stakes)) (upTo (c .count)) → offered ≡ 0 → st ≡ afterTier k c st
+nobody {k} {c} {st} s first last e z =
+    rests {x = 0} (record { steady = s; first = first; last = last; offers = e ∙ offers-are k first (c .standings) (c .stakes) (st .offset) (c .count); waits = refl; smaller = omega (arith, z) }) refl

@@ -80,15 +80,15 @@ fn deal(lots: &mut [u64], keys: &[u64], count: usize, x: u64, sum: u64, offset: 
     add(offset, lots, count);
 }
 
-// What was pending at first.
-pub fn owed(standings: &[u8], stakes: &[u32], count: usize) -> u64
+// What all have at stake in tier k, or for 0 what they had pending at first.
+pub fn staked(standings: &[u8], stakes: &[u32], count: usize, k: u8) -> u64
     requires { ⌜ Stood (now standings) (now stakes) count ⌝ }
-    ensures { λ r. ⌜ r ≡ sumOf (stakeAt 0 (now (standings .entry)) (now (stakes .entry))) (upTo count) ⌝ }
+    ensures { λ r. ⌜ r ≡ sumOf (stakeAt k (now (standings .entry)) (now (stakes .entry))) (upTo count) ⌝ }
 {
     let mut sum: u64 = 0;
     let mut i: usize = 0;
     while i < count {
-        sum += weight_of(0, standings[i], stakes[i], 0);
+        sum += weight_of(k, standings[i], stakes[i], 0);
         i += 1;
     }
     sum
@@ -96,7 +96,7 @@ pub fn owed(standings: &[u8], stakes: &[u32], count: usize) -> u64
 
 impl Cascade {
     // One tier: its quantity is divided twice, by what is pending and by what is offered in the tier. No more is divided where all of
-    // a side is.
+    // a side is. Where nobody is in the tier, no array is made for it: most small books have such a tier.
     pub fn tier(
         self,
         keys: &[u64],
@@ -109,9 +109,12 @@ impl Cascade {
         requires { ⌜ (0 < k) × (k ≤ 3) ⌝ }
         ensures { λ r. ⌜ r ≡ afterTier k (columns (now (keys .entry)) (now (standings .entry)) (now (stakes .entry)) count) self ⌝ }
     {
+        let offered = staked(standings, stakes, count, k);
+        if offered == 0 {
+            return self;
+        }
         let mut offset = self.offset;
         let mut lots = [0u64; MOST_CUSTOMERS];
-        let offered = weigh(standings, stakes, &offset, count, k, &mut lots);
         let pending = weigh(standings, stakes, &offset, count, 0, &mut lots);
         let x = lesser(pending, offered);
         if x == 0 {

@@ -117,9 +117,12 @@ module _ (κs : Lfts 1) (a : Args writing.put_three.signature κs) (r : ℕ) (s 
   three-put out at x y z = h .whole ∙ rw (out, at, x, y, z) refl
 
 -- document 01's five in columns. What tier 1 offers: 3; one lot more for each: 15; with those of every standing pending: 19
-module _ (κs : Lfts 2) (a : Args cascade.owed.signature κs) (r : ℕ) (s : AtExit cascade.owed.ended κs) (h : cascade.owed.Reads.Learnt κs a r s) where
-  pub owed-ten : now (a .0) ≡ 3 ∷ 0 ∷ 1 ∷ 0 ∷ 2 ∷ [] → now (a .1 .0) ≡ 1 ∷ 4 ∷ 3 ∷ 6 ∷ 5 ∷ [] → a .1 .1 .0 ≡ 5 → r ≡ 10
-  owed-ten standings stakes count = h ∙ rw (standings, stakes, count) refl
+module _ (κs : Lfts 2) (a : Args cascade.staked.signature κs) (r : ℕ) (s : AtExit cascade.staked.ended κs) (h : cascade.staked.Reads.Learnt κs a r s) where
+  pub pending-ten : now (a .0) ≡ 3 ∷ 0 ∷ 1 ∷ 0 ∷ 2 ∷ [] → now (a .1 .0) ≡ 1 ∷ 4 ∷ 3 ∷ 6 ∷ 5 ∷ [] → a .1 .1 .0 ≡ 5 → a .1 .1 .1 .0 ≡ 0 → r ≡ 10
+  pending-ten standings stakes count k = h ∙ rw (standings, stakes, count, k) refl
+
+  pub offered-three : now (a .0) ≡ 3 ∷ 0 ∷ 1 ∷ 0 ∷ 2 ∷ [] → now (a .1 .0) ≡ 1 ∷ 4 ∷ 3 ∷ 6 ∷ 5 ∷ [] → a .1 .1 .0 ≡ 5 → a .1 .1 .1 .0 ≡ 1 → r ≡ 3
+  offered-three standings stakes count k = h ∙ rw (standings, stakes, count, k) refl
 
 module _ (κs : Lfts 1) (a : Args codes.read_code.signature κs) (r : Code) (s : AtExit codes.read_code.ended κs) (h : codes.read_code.Reads.Learnt κs a r s) where
   -- with the bytes between 9 and A counted: 18 times 37 ^ 11; without the padding: 11

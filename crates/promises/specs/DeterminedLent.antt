@@ -37,8 +37,8 @@ pub divide : Determined division.divide.ended division.divide.Reads.Learnt
 divide κs a r q s t e f = (refl, ap (λ lots. (lots, (tt, (tt, (tt, (tt, tt)))))) (e ∙ sym f))
 
 -- cascade
-pub owed : Determined cascade.owed.ended cascade.owed.Reads.Learnt
-owed κs a r q s t e f = (e ∙ sym f, refl)
+pub staked : Determined cascade.staked.ended cascade.staked.Reads.Learnt
+staked κs a r q s t e f = (e ∙ sym f, refl)
 
 pub run : Determined cascade.Cascade.run.ended cascade.Cascade.run.Reads.Learnt
 run κs a r q s t e f = (e ∙ sym f, refl)

@@ -1,5 +1,6 @@
--- One tier: once x is found, the laws of Tier.antt say that the two divisions over the array are those over the lines.
+-- One tier: where nobody is in it, nothing moves; once x is found, the laws of Tier.antt say that the two divisions over the array are those over the lines.
 -- Assumes nothing.
+use mathlib.Core.Path.{_∙_}
 use native.Mathlib.Omega.{arith}
 use borrow.Author.Needs.{needs}
 use Rattle.cascade.specs.Columns.{Columns, columns}
@@ -11,18 +12,23 @@ use Rattle.cascade.proofs.Cascade.tier.Tie as tie
 abbrev cols : tie.Start → Columns
 cols s = let a = s .args in columns (a .keys .now) (a .standings .now) (a .stakes .now) (a .count)
 
--- what is weighed first, and then
-abbrev waited : tie.After-lesser → tie.After-weigh2
+abbrev start : tie.After-staked → tie.Start
+start o = o .before .before .before .before
+
+abbrev waited : tie.After-lesser → tie.After-weigh
 waited l = l .before .before
 
-abbrev offers : tie.After-lesser → tie.After-weigh
-offers l = waited l .before .before .before .before
-
-abbrev start : tie.After-weigh → tie.Start
-start w = w .before .before .before .before .before .before .before
+abbrev offers : tie.After-weigh → tie.After-staked
+offers w = w .before .before .before .before .before
 
 abbrev began : tie.After-lesser → tie.Start
-began l = start (offers l)
+began l = start (offers (waited l))
+
+staked-requires : tie.Need-staked-requires
+staked-requires c κs = law.staked (c .before .before .before .pre .0) .stood
+
+returns : tie.Need-returns
+returns c = let o = c .before in let p = start o .pre in law.nobody (p .0) (p .1 .0) (p .1 .1) (o .staked .ensures) (c .if1 .taken)
 
 slice-aggregate-weigh : tie.Need-slice-aggregate-weigh
 slice-aggregate-weigh c = search needs
@@ -31,34 +37,25 @@ slice-aggregate-weigh-2 : tie.Need-slice-aggregate-weigh-2
 slice-aggregate-weigh-2 c = search needs
 
 weigh-requires : tie.Need-weigh-requires
-weigh-requires c κs = let s = c .before .before .before .before .before .before in (law.staked (s .pre .0), s .pre .0 .few)
-
-slice-aggregate-weigh-3 : tie.Need-slice-aggregate-weigh-3
-slice-aggregate-weigh-3 c = search needs
-
-slice-aggregate-weigh-4 : tie.Need-slice-aggregate-weigh-4
-slice-aggregate-weigh-4 c = search needs
-
-weigh-requires-2 : tie.Need-weigh-requires-2
-weigh-requires-2 c κs = let w = c .before .before .before in (law.staked (start w .pre .0), law.weighed-room (w .weigh .ensures))
+weigh-requires c κs = let s = start (c .before .before .before .before) in (law.staked (s .pre .0), s .pre .0 .few)
 
 lesser-requires : tie.Need-lesser-requires
 lesser-requires c κs = search needs
 
-found : (l : tie.After-lesser) → let s = began l in Found (s .args .k) (cols s) (s .args .self) (l .lesser .result) (offers l .weigh .result) (waited l .weigh2 .result)
+found : (l : tie.After-lesser) → let s = began l in Found (s .args .k) (cols s) (s .args .self) (l .lesser .result) (offers (waited l) .staked .result) (waited l .weigh .result)
 found l =
     let s = began l in
     record {
       steady = s .pre .0;
       first = s .pre .1 .0;
       last = s .pre .1 .1;
-      offers = offers l .weigh .ensures .sum;
-      waits = waited l .weigh2 .ensures .sum;
+      offers = offers (waited l) .staked .ensures ∙ law.offers-are (s .args .k) (s .pre .1 .0) (s .args .standings .now) (s .args .stakes .now) (s .args .self .offset) (s .args .count);
+      waits = waited l .weigh .ensures .sum;
       smaller = l .lesser .ensures;
     }
 
-returns : tie.Need-returns
-returns c = law.rests (found (c .before)) (c .if1 .taken)
+returns-2 : tie.Need-returns-2
+returns-2 c = law.rests (found (c .before)) (c .if2 .taken)
 
 slice-aggregate-deal : tie.Need-slice-aggregate-deal
 slice-aggregate-deal c = search needs
@@ -69,24 +66,24 @@ slice-aggregate-deal-2 c = search needs
 deal-requires : tie.Need-deal-requires
 deal-requires c κs =
     let l = c .before .before .before in
-    let w = waited l .weigh2 .ensures in
+    let w = waited l .weigh .ensures in
     (law.pending-lent (found l) w, law.pending-open (found l) w)
 
 -- the first division is done
 abbrev counted : tie.After-deal → tie.After-lesser
 counted d = d .before .before .before .before
 
-slice-aggregate-weigh-5 : tie.Need-slice-aggregate-weigh-5
-slice-aggregate-weigh-5 c = search needs
+slice-aggregate-weigh-3 : tie.Need-slice-aggregate-weigh-3
+slice-aggregate-weigh-3 c = search needs
 
-slice-aggregate-weigh-6 : tie.Need-slice-aggregate-weigh-6
-slice-aggregate-weigh-6 c = search needs
+slice-aggregate-weigh-4 : tie.Need-slice-aggregate-weigh-4
+slice-aggregate-weigh-4 c = search needs
 
-weigh-requires-3 : tie.Need-weigh-requires-3
-weigh-requires-3 c κs =
+weigh-requires-2 : tie.Need-weigh-requires-2
+weigh-requires-2 c κs =
     let d = c .before .before .before .before in
     let l = counted d in
-    let w = waited l .weigh2 .ensures in
+    let w = waited l .weigh .ensures in
     (law.mid-staked (found l) w (d .deal .ensures .0), omega (arith, d .deal .ensures .1, law.weighed-room w))
 
 slice-aggregate-deal-3 : tie.Need-slice-aggregate-deal-3
@@ -100,40 +97,39 @@ deal-requires-2 c κs =
     let v = c .before .before .before in
     let d = v .before .before .before .before .before in
     let l = counted d in
-    let w = waited l .weigh2 .ensures in
-    (law.offered-lent (found l) w (d .deal .ensures .0) (v .weigh3 .ensures), law.offered-open (found l) w (d .deal .ensures .0) (v .weigh3 .ensures))
+    let w = waited l .weigh .ensures in
+    (law.offered-lent (found l) w (d .deal .ensures .0) (v .weigh2 .ensures), law.offered-open (found l) w (d .deal .ensures .0) (v .weigh2 .ensures))
 
-add-t26 : tie.Need-add-t26
-add-t26 c = omega (arith, law.total-fits (found (counted (c .before .before .before .before .before .before .before .before .before .before .before .before))))
+add-t22 : tie.Need-add-t22
+add-t22 c = omega (arith, law.total-fits (found (counted (c .before .before .before .before .before .before .before .before .before .before .before .before))))
 
-returns-2 : tie.Need-returns-2
-returns-2 c =
+returns-3 : tie.Need-returns-3
+returns-3 c =
     let y = c .before .before .before in
     let v = y .before .before .before .before in
     let d = v .before .before .before .before .before in
     let l = counted d in
-    law.worked (found l) (waited l .weigh2 .ensures) (d .deal .ensures .0) (v .weigh3 .ensures) (y .deal2 .ensures .0)
+    law.worked (found l) (waited l .weigh .ensures) (d .deal .ensures .0) (v .weigh2 .ensures) (y .deal2 .ensures .0)
 
 pub tier-spec : {M : Type 1} → statement M
 tier-spec =
     tie.close
     (tie.spec
+    staked-requires
+    returns
     slice-aggregate-weigh
     slice-aggregate-weigh-2
     weigh-requires
-    slice-aggregate-weigh-3
-    slice-aggregate-weigh-4
-    weigh-requires-2
     lesser-requires
-    returns
+    returns-2
     slice-aggregate-deal
     slice-aggregate-deal-2
     deal-requires
-    slice-aggregate-weigh-5
-    slice-aggregate-weigh-6
-    weigh-requires-3
+    slice-aggregate-weigh-3
+    slice-aggregate-weigh-4
+    weigh-requires-2
     slice-aggregate-deal-3
     slice-aggregate-deal-4
     deal-requires-2
-    add-t26
-    returns-2)
+    add-t22
+    returns-3)
