@@ -1,11 +1,20 @@
-/* The product's calls behind standard input and output, for machines that cannot link an x86-64 archive.
-   It needs no C library: it is linked with the archive alone and is run under an emulator.
+/* The product's calls behind standard input and output, for machines that cannot link x86-64 archives.
+   It needs no C library: it is linked with the archives alone and is run under an emulator.
 
-   Numbers are 8 bytes, low byte first. A question: the call, the book's size, how often something is lent, the book; then
-   what is lent each time. Call 0 is frundavel_allot, with one buffer; call 1 is frundavel_columns, with the runs offered,
-   pending, offsets and standings. Of a buffer or a run come its places with guards, the room's place in it, the room, and what
-   stands in it. The answer: each time number, place and length, then all that was lent as the call left it. It ends with its
-   input. */
+   Numbers are 8 bytes, low byte first. A question: the call, the input's size, how often something is lent, the input; then
+   what is lent each time:
+
+     0  frundavel_allot           one buffer
+     1  frundavel_columns         the runs offered, pending, offsets and standings
+     2  frundavel_moves           one run of bytes
+     3  frundavel_ladder          one run of numbers
+     4  frundavel_sheet_to_book   one buffer
+     5  frundavel_book_to_sheet   one buffer; the mark is the second byte of the call
+     6  frundavel_cutback         one run of numbers; its input is that of `cutback` below
+     7  frundavel_allot_in_rows   one buffer
+
+   Of a buffer or a run come its places with guards, the room's place in it, the room, and what stands in it. The answer: each
+   time number, place and length, then all that was lent as the call left it. It ends with its input. */
 
 typedef unsigned char byte;
 typedef unsigned long size;
@@ -14,14 +23,22 @@ typedef byte __attribute__((vector_size(128), aligned(1), may_alias)) line;
 
 struct answer { size number, place, length; };
 struct answer frundavel_allot(const byte *book, size count, byte *report, size room);
+struct answer frundavel_allot_in_rows(const byte *book, size count, byte *report, size room);
 struct answer frundavel_columns(const byte *book, size count, byte *standings, size s, size *offered, size f, size *pending, size p,
                                 size *offsets, size o);
+struct answer frundavel_moves(const byte *list, size count, byte *spans, size room);
+struct answer frundavel_ladder(const byte *list, size count, size *steps, size places);
+struct answer frundavel_sheet_to_book(const byte *sheet, size count, byte *book, size room);
+struct answer frundavel_book_to_sheet(const byte *book, size count, byte mark, byte *sheet, size room);
+struct answer frundavel_cutback(const byte *kind, size k, const byte *metal, size m, size grams, const byte *codes, size c,
+                                const size *sizes, size s, const size *lots, size l, size *cuts, size places);
 
 enum { READ = 0, WRITE = 1, EXIT = 60 };
-enum { MOST_BOOK = 1 << 20, MOST_OUT = 1 << 20, MOST_PLACES = 1 << 12 };
-enum { ALLOT = 0, COLUMNS = 1 };
+enum { MOST_INPUT = 1 << 20, MOST_OUT = 1 << 20, MOST_PLACES = 1 << 12 };
+enum { ALLOT = 0, COLUMNS = 1, MOVES = 2, LADDER = 3, TO_BOOK = 4, TO_SHEET = 5, CUTBACK = 6, IN_ROWS = 7 };
 
-static byte book[MOST_BOOK];
+/* Numbers can stand at its front. */
+static byte input[MOST_INPUT] __attribute__((aligned(sizeof(size))));
 static byte out[MOST_OUT];
 static byte standings[MOST_PLACES];
 static size lots[3][MOST_PLACES];
@@ -118,15 +135,66 @@ static size put(size used, const void *from, size count)
     return used + count;
 }
 
+/* So many places of the input, of so many bytes, from `at` on; moves `at` behind them. */
+static const byte *part(size *at, size count, size places, size width)
+{
+    const byte *from = input + *at;
+    if (places > (count - *at) / width)
+        leave(2);
+    *at += places * width;
+    return from;
+}
+
+/* The input is the sizes of type and metal, the grams, the size of the codes, how many sizes and how many lots; then the sizes,
+   the lots, the type, the metal and the codes. */
+static struct answer cutback(size count, size *cuts, size places)
+{
+    size at = 0;
+    const size *has = (const size *)part(&at, count, 6, sizeof(size));
+    const size *sizes = (const size *)part(&at, count, has[4], sizeof(size));
+    const size *held = (const size *)part(&at, count, has[5], sizeof(size));
+    const byte *kind = part(&at, count, has[0], 1);
+    const byte *metal = part(&at, count, has[1], 1);
+    const byte *codes = part(&at, count, has[3], 1);
+    return frundavel_cutback(kind, has[0], metal, has[1], has[2], codes, has[3], sizes, has[4], held, has[5], cuts, places);
+}
+
+/* A call with one buffer, or one run of bytes. */
+static struct answer with_bytes(size call, byte mark, size count, byte *room, size places)
+{
+    switch (call) {
+    case ALLOT:
+        return frundavel_allot(input, count, room, places);
+    case IN_ROWS:
+        return frundavel_allot_in_rows(input, count, room, places);
+    case MOVES:
+        return frundavel_moves(input, count, room, places);
+    case TO_BOOK:
+        return frundavel_sheet_to_book(input, count, room, places);
+    default:
+        return frundavel_book_to_sheet(input, count, mark, room, places);
+    }
+}
+
 /* Lends one buffer, and puts the answer and the buffer at the end of what is to go out. */
-static size lend(size count, size used)
+static size lend_bytes(size call, byte mark, size count, size used)
 {
     const size after = used + sizeof(struct answer);
     if (after > MOST_OUT)
         leave(2);
-    const struct lent report = take_lent(out + after, MOST_OUT - after, 1);
-    const struct answer answer = frundavel_allot(book, count, report.room, report.places);
-    return put(used, &answer, sizeof answer) + report.bytes;
+    const struct lent lent = take_lent(out + after, MOST_OUT - after, 1);
+    const struct answer answer = with_bytes(call, mark, count, lent.room, lent.places);
+    return put(used, &answer, sizeof answer) + lent.bytes;
+}
+
+/* The same with one run of numbers, which stands apart, since a number does not stand at every byte. */
+static size lend_numbers(size call, size count, size used)
+{
+    const struct lent lent = take_lent(lots[0], sizeof lots[0], sizeof(size));
+    size *room = (size *)lent.room;
+    const struct answer answer =
+        call == LADDER ? frundavel_ladder(input, count, room, lent.places) : cutback(count, room, lent.places);
+    return put(put(used, &answer, sizeof answer), lent.whole, lent.bytes);
 }
 
 /* The same with four runs. */
@@ -137,8 +205,8 @@ static size lend_runs(size count, size used)
     const struct lent offsets = take_lent(lots[2], sizeof lots[2], sizeof(size));
     const struct lent letters = take_lent(standings, sizeof standings, 1);
     const struct answer answer =
-        frundavel_columns(book, count, letters.room, letters.places, (size *)offered.room, offered.places, (size *)pending.room,
-                          pending.places, (size *)offsets.room, offsets.places);
+        frundavel_columns(input, count, letters.room, letters.places, (size *)offered.room, offered.places,
+                          (size *)pending.room, pending.places, (size *)offsets.room, offsets.places);
     used = put(used, &answer, sizeof answer);
     used = put(used, offered.whole, offered.bytes);
     used = put(used, pending.whole, pending.bytes);
@@ -146,17 +214,32 @@ static size lend_runs(size count, size used)
     return put(used, letters.whole, letters.bytes);
 }
 
+/* Lends what the call takes. */
+static size lend(size call, byte mark, size count, size used)
+{
+    switch (call) {
+    case COLUMNS:
+        return lend_runs(count, used);
+    case LADDER:
+    case CUTBACK:
+        return lend_numbers(call, count, used);
+    default:
+        return lend_bytes(call, mark, count, used);
+    }
+}
+
 void serve(void)
 {
-    struct { size call, book, lent; } asked;
+    struct { size call, input, lent; } asked;
     for (;;) {
         take(&asked, sizeof asked, 1);
-        if (asked.book > MOST_BOOK || asked.call > COLUMNS)
+        const size call = asked.call & 255, mark = asked.call >> 8;
+        if (asked.input > MOST_INPUT || call > IN_ROWS || mark > (call == TO_SHEET ? 255 : 0))
             leave(2);
-        take(book, asked.book, 0);
+        take(input, asked.input, 0);
         size used = 0;
         for (; asked.lent; asked.lent--)
-            used = asked.call == ALLOT ? lend(asked.book, used) : lend_runs(asked.book, used);
+            used = lend(call, mark, asked.input, used);
         give(out, used);
     }
 }

@@ -26,6 +26,24 @@ struct answer frundavel_columns(const byte *book, size count, byte *standings, s
     return a;
 }
 
+struct answer *product_moves(struct answer *to, const byte *list, size count, byte *spans, size room);
+
+struct answer frundavel_moves(const byte *list, size count, byte *spans, size room)
+{
+    struct answer a;
+    product_moves(&a, list, count, spans, room);
+    return a;
+}
+
+struct answer *product_ladder(struct answer *to, const byte *list, size count, size *steps, size places);
+
+struct answer frundavel_ladder(const byte *list, size count, size *steps, size places)
+{
+    struct answer a;
+    product_ladder(&a, list, count, steps, places);
+    return a;
+}
+
 struct answer *product_sheet_to_book(struct answer *to, const byte *sheet, size count, byte *book, size room);
 
 struct answer frundavel_sheet_to_book(const byte *sheet, size count, byte *book, size room)
@@ -41,6 +59,17 @@ struct answer frundavel_book_to_sheet(const byte *book, size count, byte mark, b
 {
     struct answer a;
     product_book_to_sheet(&a, book, count, mark, sheet, room);
+    return a;
+}
+
+struct answer *product_cutback(struct answer *to, const byte *kind, size k, const byte *metal, size m, size grams, const byte *codes,
+                               size c, const size *sizes, size s, const size *lots, size l, size *cuts, size places);
+
+struct answer frundavel_cutback(const byte *kind, size k, const byte *metal, size m, size grams, const byte *codes, size c,
+                                const size *sizes, size s, const size *lots, size l, size *cuts, size places)
+{
+    struct answer a;
+    product_cutback(&a, kind, k, metal, m, grams, codes, c, sizes, s, lots, l, cuts, places);
     return a;
 }
 #endif

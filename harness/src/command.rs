@@ -1,9 +1,14 @@
-//! What the commands over lists and over sheets have in common: their words, a program fed with an input, and the count at the end.
+//! What the commands over lists and over sheets have in common: their words, a call in several rooms, a program fed with an input, and the
+//! count at the end.
 
 use std::io::Write;
+use std::path::Path;
 use std::process::{Command, ExitCode, Output, Stdio};
 
-/// `NAME SEED CALLS RUNS PROGRAM..`: so many generated inputs through the call and through the program.
+use crate::guarded::{Lent, Place};
+use crate::product::Answer;
+
+/// `NAME [--through FILE] SEED CALLS RUNS PROGRAM..`: so many generated inputs through the call and through the program.
 pub struct Asked<'a> {
     pub seed: u64,
     pub calls: u64,
@@ -11,7 +16,15 @@ pub struct Asked<'a> {
     pub program: &'a [String],
 }
 
-/// What the words ask for; where they are wrong, the usage is said, and the status is there.
+/// The file behind `--through`, which is that of `compare` and comes first, since the words of a program go on to the end; and the other words.
+pub fn through_and_rest(words: &[String]) -> (Option<&Path>, &[String]) {
+    match words {
+        [word, file, rest @ ..] if word == "--through" => (Some(Path::new(file)), rest),
+        _ => (None, words),
+    }
+}
+
+/// What the other words ask for; where they are wrong, the usage is said, and the status is there.
 pub fn asked<'a>(name: &str, words: &'a [String]) -> Result<Asked<'a>, ExitCode> {
     let numbers: Vec<u64> = words
         .iter()
@@ -27,8 +40,34 @@ pub fn asked<'a>(name: &str, words: &'a [String]) -> Result<Asked<'a>, ExitCode>
             program,
         }),
         _ => {
-            eprintln!("usage: {name} SEED CALLS RUNS PROGRAM..");
+            eprintln!("usage: {name} [--through FILE] SEED CALLS RUNS PROGRAM..");
             Err(ExitCode::from(2))
+        }
+    }
+}
+
+/// Says that there is nothing to call.
+pub fn not_linked(name: &str) -> ExitCode {
+    eprintln!("{name}: the product is x86-64 and cannot be linked in here; see --through in compare --help");
+    ExitCode::from(2)
+}
+
+/// A call lent these rooms for an input does what a right one does: what it answers, and every place of each room and of the guards around it.
+pub fn held<T: Place + PartialEq>(
+    input: &[u8],
+    rooms: &[usize],
+    call: impl FnOnce(&mut [Lent<T>]) -> Result<Vec<Answer>, String>,
+    right: impl Fn(&mut [T]) -> Answer,
+) -> bool {
+    let fresh = |&room: &usize| Lent::new(room, (input.len() + room) as u64);
+    let mut lent: Vec<Lent<T>> = rooms.iter().map(fresh).collect();
+    let mut after = lent.clone();
+    let wanted: Vec<Answer> = after.iter_mut().map(|one| right(one.room_mut())).collect();
+    match call(&mut lent) {
+        Ok(answers) => answers == wanted && lent == after,
+        Err(told) => {
+            println!("{told}");
+            false
         }
     }
 }

@@ -22,6 +22,14 @@ pub fn columns(_book: &[u8], _standings: &mut [u8], _lots: [&mut [u64]; 3]) -> A
     panic!("{NOT_LINKED}")
 }
 
+pub fn moves(list: &[u8], spans: &mut [u8]) -> Answer {
+    allot(list, spans)
+}
+
+pub fn ladder(_list: &[u8], _steps: &mut [u64]) -> Answer {
+    panic!("{NOT_LINKED}")
+}
+
 pub fn sheet_to_book(sheet: &[u8], book: &mut [u8]) -> Answer {
     allot(sheet, book)
 }

@@ -4,9 +4,11 @@ use std::process::ExitCode;
 
 use second::days::{Kind, Refusal};
 
-use crate::command::{asked, fed, Asked, Count};
+use crate::command::{asked, fed, held, not_linked, through_and_rest, Asked, Count};
 use crate::guarded::{Lent, Place};
 use crate::product::Answer;
+use crate::program::{tried, Program};
+use crate::through::{self, Sent};
 
 /// A call on a list and a lent run.
 pub type Call<T> = fn(&[u8], &mut [T]) -> Answer;
@@ -18,8 +20,8 @@ pub struct Tried<T> {
     pub listing: fn(&[u8]) -> String,
     /// What the run holds, a place for each day.
     pub places: fn(&[u8]) -> Result<Vec<T>, Refusal>,
-    /// None where the product cannot be linked.
-    pub call: Option<Call<T>>,
+    /// The call where it is linked in, and as it is asked for where it is not.
+    pub call: (Call<T>, through::Call),
     pub list: fn(u64, u64) -> (Vec<u8>, Kind),
     /// Lists that go through the call beside the generated ones.
     pub also: Vec<Vec<u8>>,
@@ -28,29 +30,45 @@ pub struct Tried<T> {
 /// The number of no room in a run.
 const NO_ROOM: u64 = 11;
 
-impl<T: Place + PartialEq> Tried<T> {
+impl<T: Place + PartialEq + 'static> Tried<T>
+where
+    Lent<T>: Sent,
+{
     /// The command: so many generated lists through the call and through the program.
     pub fn command(&self, command: &str, words: &[String]) -> ExitCode {
-        let asked = asked(command, words);
-        let Asked {
+        let (through, words) = through_and_rest(words);
+        let asked = match asked(command, words) {
+            Ok(asked) => asked,
+            Err(status) => return status,
+        };
+        let mut call = tried(through, self.call.1, self.call.0);
+        if call.is_none() && asked.calls > 0 {
+            return not_linked(command);
+        }
+        let called = |list: &[u8]| match &mut call {
+            Some(call) => self.called(&mut **call, list),
+            None => false,
+        };
+        self.compared(&asked, called).end()
+    }
+
+    fn compared(&self, asked: &Asked, mut called: impl FnMut(&[u8]) -> bool) -> Count {
+        let &Asked {
             seed,
             calls,
             runs,
             program,
-        } = match asked {
-            Ok(asked) => asked,
-            Err(status) => return status,
-        };
+        } = asked;
         let mut count = Count::default();
         for list in self.also.iter().filter(|_| calls > 0) {
-            count.add(self.called(list), || {
+            count.add(called(list), || {
                 format!("{:?}", String::from_utf8_lossy(list))
             });
         }
         for index in 0..calls.max(runs) {
             let (bytes, kind) = (self.list)(seed, index);
-            let good = (index >= calls || self.called(&bytes))
-                && (index >= runs || self.told(program, &bytes));
+            let good =
+                (index >= calls || called(&bytes)) && (index >= runs || self.told(program, &bytes));
             count.add(good, || {
                 format!(
                     "seed {seed}, index {index}, {kind:?}, {} bytes",
@@ -58,19 +76,16 @@ impl<T: Place + PartialEq> Tried<T> {
                 )
             });
         }
-        count.end()
+        count
     }
 
-    /// A list through the call, in runs of every kind of size.
-    pub fn called(&self, list: &[u8]) -> bool {
-        let Some(call) = self.call else {
-            return true;
-        };
+    /// A list through a call, in runs of every kind of size.
+    pub fn called(&self, call: &mut dyn Program<T>, list: &[u8]) -> bool {
         let wanted = (self.places)(list);
         let days = wanted.as_ref().map_or(3, Vec::len);
-        [0, days.saturating_sub(1), days, days + 1, 2_000]
-            .into_iter()
-            .all(|room| held(call, list, &wanted, room))
+        let rooms = [0, days.saturating_sub(1), days, days + 1, 2_000];
+        let right = |run: &mut [T]| right(&wanted, run);
+        held(list, &rooms, |lent| call.call(list, lent), right)
     }
 
     /// A list through the program: what it prints, how what it says begins, and its status.
@@ -88,28 +103,19 @@ impl<T: Place + PartialEq> Tried<T> {
     }
 }
 
-/// The call with a room: what it answers, and every place of the run and of the guards around it.
-fn held<T: Place + PartialEq>(
-    call: Call<T>,
-    list: &[u8],
-    wanted: &Result<Vec<T>, Refusal>,
-    room: usize,
-) -> bool {
-    let mut lent = Lent::<T>::new(room, (list.len() + room) as u64);
-    let mut after = lent.clone();
-    let answer = call(list, lent.room_mut());
+/// What the second program says of a list, as a call answers it.
+fn right<T: Place>(wanted: &Result<Vec<T>, Refusal>, run: &mut [T]) -> Answer {
     let (number, place, length) = match wanted {
         &Err((number, place)) => (number, place, 0),
-        Ok(places) if room < places.len() => (NO_ROOM, places.len() as u64, 0),
+        Ok(places) if run.len() < places.len() => (NO_ROOM, places.len() as u64, 0),
         Ok(places) => {
-            after.room_mut()[..places.len()].copy_from_slice(places);
+            run[..places.len()].copy_from_slice(places);
             (0, 0, places.len() as u64)
         }
     };
-    let numbers = Answer {
+    Answer {
         number,
         place,
         length,
-    };
-    answer == numbers && lent == after
+    }
 }

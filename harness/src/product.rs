@@ -33,6 +33,10 @@ extern "C" {
         offsets_places: usize,
     ) -> Answer;
 
+    fn frundavel_moves(list: *const u8, size: usize, spans: *mut u8, room: usize) -> Answer;
+
+    fn frundavel_ladder(list: *const u8, size: usize, steps: *mut u64, places: usize) -> Answer;
+
     fn frundavel_sheet_to_book(sheet: *const u8, size: usize, book: *mut u8, room: usize)
         -> Answer;
 
@@ -75,6 +79,18 @@ pub fn columns(book: &[u8], standings: &mut [u8], lots: [&mut [u64]; 3]) -> Answ
             offsets.len(),
         )
     }
+}
+
+/// Reads a list of days and fills the front of the lent run with the spans of each day.
+pub fn moves(list: &[u8], spans: &mut [u8]) -> Answer {
+    // SAFETY: as above.
+    unsafe { frundavel_moves(list.as_ptr(), list.len(), spans.as_mut_ptr(), spans.len()) }
+}
+
+/// Reads a list in the longer form and fills the front of the lent run with the step of each day.
+pub fn ladder(list: &[u8], steps: &mut [u64]) -> Answer {
+    // SAFETY: as above.
+    unsafe { frundavel_ladder(list.as_ptr(), list.len(), steps.as_mut_ptr(), steps.len()) }
 }
 
 /// Reads a sheet and writes its book at the front of the lent buffer.

@@ -3,22 +3,22 @@
 use std::hint::black_box;
 use std::path::Path;
 
-use crate::guarded::Lent;
+use crate::guarded::{Lent, Place};
 use crate::product::{self, Answer};
 use crate::runs::Runs;
-use crate::through::Through;
+use crate::through::{Call, Sent, Through};
 
-/// A program that answers a book once for each lent buffer.
-pub trait Program {
+/// A program that answers an input once for each lent buffer, or for each lent run.
+pub trait Program<T = u8> {
     /// The answers in the buffers' order, or what became of the program instead.
-    fn call(&mut self, book: &[u8], lent: &mut [Lent]) -> Result<Vec<Answer>, String>;
+    fn call(&mut self, input: &[u8], lent: &mut [Lent<T>]) -> Result<Vec<Answer>, String>;
 }
 
 /// A plain call is a program.
-impl<F: FnMut(&[u8], &mut [u8]) -> Answer> Program for F {
-    fn call(&mut self, book: &[u8], lent: &mut [Lent]) -> Result<Vec<Answer>, String> {
+impl<T: Place, F: FnMut(&[u8], &mut [T]) -> Answer> Program<T> for F {
+    fn call(&mut self, input: &[u8], lent: &mut [Lent<T>]) -> Result<Vec<Answer>, String> {
         let answers = lent.iter_mut().map(|one| {
-            let answer = self(book, one.room_mut());
+            let answer = self(input, one.room_mut());
             // A wrong call writes where the compiler takes it that nothing is written.
             black_box(one.whole_mut());
             answer
@@ -45,24 +45,36 @@ impl<F: FnMut(&[u8], &mut [u8], [&mut [u64]; 3]) -> Answer> Viewer for F {
     }
 }
 
-/// Both calls.
+/// A call behind a program that is asked over a pipe, or linked in; none where it cannot be linked in.
+pub fn tried<T: Place + 'static>(
+    through: Option<&Path>,
+    call: Call,
+    linked: fn(&[u8], &mut [T]) -> Answer,
+) -> Option<Box<dyn Program<T>>>
+where
+    Lent<T>: Sent,
+{
+    match through {
+        Some(file) => Some(Box::new(Through::new(file, call))),
+        None if cfg!(linked) => Some(Box::new(linked)),
+        None => None,
+    }
+}
+
+/// Both calls for a book.
 pub struct Tried {
     pub program: Box<dyn Program>,
     pub viewer: Box<dyn Viewer>,
 }
 
 impl Tried {
-    /// The product behind a program that is asked over a pipe, or linked in; none where it cannot be linked in.
+    /// The same of both.
     pub fn of(through: Option<&Path>) -> Option<Self> {
-        match through {
-            Some(file) => Some(Tried {
-                program: Box::new(Through::new(file)),
-                viewer: Box::new(Through::new(file)),
-            }),
-            None => cfg!(linked).then(|| Tried {
-                program: Box::new(product::allot),
-                viewer: Box::new(product::columns),
-            }),
-        }
+        let viewer: Box<dyn Viewer> = match through {
+            Some(file) => Box::new(Through::new(file, Call::Columns)),
+            None => Box::new(product::columns),
+        };
+        let program = tried(through, Call::Allot, product::allot)?;
+        Some(Tried { program, viewer })
     }
 }

@@ -7,11 +7,18 @@ use std::{fs, io};
 use second::make;
 use second::sheet::{told, Mark, Told, Work};
 
-use crate::command::{asked, fed, Count};
+use crate::command::{asked, fed, held, not_linked, through_and_rest, Count};
 use crate::guarded::Lent;
 use crate::product::Answer;
+use crate::program::Program;
+use crate::through::{Call, Through};
 
-/// The calls that are tried.
+/// What is tried: it answers an input once for each lent buffer, by either call.
+pub trait Sheets {
+    fn call(&mut self, way: Way, input: &[u8], lent: &mut [Lent]) -> Result<Vec<Answer>, String>;
+}
+
+/// Plain calls.
 #[derive(Clone, Copy)]
 pub struct Calls {
     pub to_book: fn(&[u8], &mut [u8]) -> Answer,
@@ -34,55 +41,64 @@ const NO_ROOM: u64 = 23;
 /// Bytes that are no mark.
 const NO_MARKS: [u8; 7] = [0, b';', b'+', b'-', b'/', b'm', 255];
 
-impl Calls {
-    fn call(&self, way: Way, input: &[u8], lent: &mut [u8]) -> Answer {
-        match way {
-            Way::Read => (self.to_book)(input, lent),
-            Way::Write(mark) => (self.to_sheet)(input, mark, lent),
+impl Sheets for Calls {
+    fn call(&mut self, way: Way, input: &[u8], lent: &mut [Lent]) -> Result<Vec<Answer>, String> {
+        let calls = *self;
+        let mut call = |input: &[u8], room: &mut [u8]| match way {
+            Way::Read => (calls.to_book)(input, room),
+            Way::Write(mark) => (calls.to_sheet)(input, mark, room),
+        };
+        Program::call(&mut call, input, lent)
+    }
+}
+
+impl Sheets for Through {
+    fn call(&mut self, way: Way, input: &[u8], lent: &mut [Lent]) -> Result<Vec<Answer>, String> {
+        self.turn_to(match way {
+            Way::Read => Call::SheetToBook,
+            Way::Write(mark) => Call::BookToSheet(mark),
+        });
+        Program::call(self, input, lent)
+    }
+}
+
+/// A sheet through its call, in rooms of every kind of size.
+pub fn reads(calls: &mut dyn Sheets, sheet: &[u8]) -> bool {
+    holds(calls, Way::Read, sheet)
+}
+
+/// A book through its call, with both marks, and with bytes that are none.
+pub fn writes(calls: &mut dyn Sheets, book: &[u8]) -> bool {
+    let other = NO_MARKS[book.len() % NO_MARKS.len()];
+    [b',', b'.', other]
+        .into_iter()
+        .all(|mark| holds(calls, Way::Write(mark), book))
+}
+
+fn holds(calls: &mut dyn Sheets, way: Way, input: &[u8]) -> bool {
+    let (answer, bytes) = wanted(way, input);
+    comes_to(calls, way, input, (answer, &bytes))
+}
+
+/// The call in rooms of every kind of size comes to an answer and to these bytes.
+fn comes_to(calls: &mut dyn Sheets, way: Way, input: &[u8], wanted: (Answer, &[u8])) -> bool {
+    let rooms = rooms(wanted.1.len());
+    let right = |room: &mut [u8]| right(wanted, room);
+    held(input, &rooms, |lent| calls.call(way, input, lent), right)
+}
+
+/// An answer and its bytes in a room.
+fn right((answer, bytes): (Answer, &[u8]), room: &mut [u8]) -> Answer {
+    match room.get_mut(..bytes.len()) {
+        Some(front) => {
+            front.copy_from_slice(bytes);
+            answer
         }
-    }
-
-    /// A sheet through its call, in rooms of every kind of size.
-    pub fn reads(&self, sheet: &[u8]) -> bool {
-        self.holds(Way::Read, sheet)
-    }
-
-    /// A book through its call, with both marks, and with bytes that are none.
-    pub fn writes(&self, book: &[u8]) -> bool {
-        let other = NO_MARKS[book.len() % NO_MARKS.len()];
-        [b',', b'.', other]
-            .into_iter()
-            .all(|mark| self.holds(Way::Write(mark), book))
-    }
-
-    fn holds(&self, way: Way, input: &[u8]) -> bool {
-        let (answer, bytes) = wanted(way, input);
-        self.comes_to(way, input, (answer, &bytes))
-    }
-
-    /// The call in rooms of every kind of size comes to an answer and to these bytes.
-    fn comes_to(&self, way: Way, input: &[u8], wanted: (Answer, &[u8])) -> bool {
-        rooms(wanted.1.len())
-            .into_iter()
-            .all(|room| self.held(way, input, wanted, room))
-    }
-
-    /// The call with a room: what it answers, and every byte of the room and of the guards around it.
-    fn held(&self, way: Way, input: &[u8], wanted: (Answer, &[u8]), room: usize) -> bool {
-        let (mut answer, bytes) = wanted;
-        let mut lent = Lent::<u8>::new(room, (input.len() + room) as u64);
-        let mut after = lent.clone();
-        match after.room_mut().get_mut(..bytes.len()) {
-            Some(front) => front.copy_from_slice(bytes),
-            None => {
-                answer = Answer {
-                    number: NO_ROOM,
-                    place: 0,
-                    length: 0,
-                }
-            }
-        }
-        self.call(way, input, lent.room_mut()) == answer && lent == after
+        None => Answer {
+            number: NO_ROOM,
+            place: 0,
+            length: 0,
+        },
     }
 }
 
@@ -126,7 +142,7 @@ pub fn runs(program: &[String], work: Work, input: &[u8]) -> bool {
 
 /// Inputs that somebody else has read, through the calls: FOLDER/read/N.sheet, FOLDER/comma/N.book and FOLDER/point/N.book, each with all that is
 /// written, N.want, and where it is refused N.said, which begins `refused 21 at 3`.
-pub fn stored(folder: &Path, calls: &Calls) -> io::Result<Count> {
+pub fn stored(folder: &Path, calls: &mut dyn Sheets) -> io::Result<Count> {
     let mut count = Count::default();
     for (name, suffix, way) in [
         ("read", "sheet", Way::Read),
@@ -139,7 +155,7 @@ pub fn stored(folder: &Path, calls: &Calls) -> io::Result<Count> {
                 let want = fs::read(path.with_extension("want"))?;
                 let said = fs::read_to_string(path.with_extension("said")).unwrap_or_default();
                 let answer = answer_of(&said, want.len() as u64);
-                let good = calls.comes_to(way, &fs::read(&path)?, (answer, &want));
+                let good = comes_to(calls, way, &fs::read(&path)?, (answer, &want));
                 count.add(good, || path.display().to_string());
             }
         }
@@ -157,26 +173,46 @@ fn answer_of(said: &str, length: u64) -> Answer {
     }
 }
 
-/// The command: `stored FOLDER`; or so many generated sheets and books through the calls and through the program.
-pub fn command(words: &[String], calls: Option<Calls>) -> ExitCode {
-    if let (Some(calls), [first, folder]) = (calls, words) {
-        if first == "stored" {
-            return match stored(Path::new(folder), &calls) {
-                Ok(count) => count.end(),
-                Err(error) => {
-                    eprintln!("sheets: {folder}: {error}");
-                    ExitCode::FAILURE
-                }
-            };
+/// The command: `[--through FILE] stored FOLDER`; or so many generated sheets and books through the calls and through the program. The calls are
+/// linked in or behind the file.
+pub fn command(words: &[String], linked: Calls) -> ExitCode {
+    let (through, words) = through_and_rest(words);
+    let mut calls: Option<Box<dyn Sheets>> = match through {
+        Some(file) => Some(Box::new(Through::new(file, Call::SheetToBook))),
+        None if cfg!(linked) => Some(Box::new(linked)),
+        None => None,
+    };
+    match (words, &mut calls) {
+        ([first, folder], Some(calls)) if first == "stored" => {
+            all_stored(Path::new(folder), &mut **calls)
+        }
+        ([first, _], None) if first == "stored" => not_linked("sheets"),
+        _ => generated(words, calls),
+    }
+}
+
+fn all_stored(folder: &Path, calls: &mut dyn Sheets) -> ExitCode {
+    match stored(folder, calls) {
+        Ok(count) => count.end(),
+        Err(error) => {
+            eprintln!("sheets: {}: {error}", folder.display());
+            ExitCode::FAILURE
         }
     }
+}
+
+fn generated(words: &[String], calls: Option<Box<dyn Sheets>>) -> ExitCode {
     let asked = match asked("sheets", words) {
         Ok(asked) => asked,
         Err(status) => return status,
     };
     let mut count = Count::default();
-    if let Some(calls) = calls.filter(|_| asked.calls > 0) {
-        called(&mut count, asked.seed, asked.calls, &calls);
+    match calls {
+        Some(mut calls) if asked.calls > 0 => {
+            called(&mut count, asked.seed, asked.calls, &mut *calls)
+        }
+        None if asked.calls > 0 => return not_linked("sheets"),
+        _ => (),
     }
     for index in 0..asked.runs {
         ran(&mut count, asked.seed, index, asked.program);
@@ -185,15 +221,15 @@ pub fn command(words: &[String], calls: Option<Calls>) -> ExitCode {
 }
 
 /// Small sheets byte by byte, then generated sheets and books.
-fn called(count: &mut Count, seed: u64, times: u64, calls: &Calls) {
+fn called(count: &mut Count, seed: u64, times: u64, calls: &mut dyn Sheets) {
     for sheet in make::sheets::swept().chain(make::sheets::lettered()) {
-        count.add(calls.reads(&sheet), || {
+        count.add(reads(calls, &sheet), || {
             format!("the call on {:?}", String::from_utf8_lossy(&sheet))
         });
     }
     for index in 0..times {
         let sheet = make::sheets::sheet(seed, index);
-        count.add(calls.reads(&sheet.bytes), || {
+        count.add(reads(calls, &sheet.bytes), || {
             let size = sheet.bytes.len();
             format!(
                 "the call on the sheet of seed {seed}, index {index}: {}, {size} bytes",
@@ -201,7 +237,7 @@ fn called(count: &mut Count, seed: u64, times: u64, calls: &Calls) {
             )
         });
         let book = make::book(seed, index);
-        count.add(calls.writes(&book.bytes), || {
+        count.add(writes(calls, &book.bytes), || {
             let size = book.bytes.len();
             format!(
                 "the call on the book of seed {seed}, index {index}: {}, {size} bytes",

@@ -9,8 +9,23 @@ use crate::product::Answer;
 use crate::program::{Program, Viewer};
 use crate::runs::Runs;
 
+/// The calls that can be asked for.
+#[derive(Clone, Copy, Debug, PartialEq, Eq)]
+pub enum Call {
+    Allot,
+    Columns,
+    Moves,
+    Ladder,
+    SheetToBook,
+    /// With its mark.
+    BookToSheet(u8),
+    Cutback,
+    AllotInRows,
+}
+
 pub struct Through {
     file: PathBuf,
+    call: Call,
     running: Option<Running>,
 }
 
@@ -22,24 +37,31 @@ struct Running {
 
 impl Through {
     /// The program is started with the first call, and again with the call after one that it died of.
-    pub fn new(file: &Path) -> Self {
+    pub fn new(file: &Path, call: Call) -> Self {
         Through {
             file: file.to_path_buf(),
+            call,
             running: None,
         }
     }
 
-    fn ask<T: Asked>(&mut self, book: &[u8], lent: &mut [T]) -> io::Result<Vec<Answer>> {
+    /// From now on another call is asked for.
+    pub fn turn_to(&mut self, call: Call) {
+        self.call = call;
+    }
+
+    fn ask<T: Sent>(&mut self, input: &[u8], lent: &mut [T]) -> io::Result<Vec<Answer>> {
         if self.running.is_none() {
             self.running = Some(Running::start(&self.file)?);
         }
         let running = self.running.as_mut().expect("just started");
-        running.input.write_all(&question(book, lent))?;
+        let question = question(self.call, input, lent);
+        running.input.write_all(&question)?;
         lent.iter_mut().map(|one| running.answer(one)).collect()
     }
 
-    fn asked<T: Asked>(&mut self, book: &[u8], lent: &mut [T]) -> Result<Vec<Answer>, String> {
-        self.ask(book, lent).map_err(|error| {
+    fn asked<T: Sent>(&mut self, input: &[u8], lent: &mut [T]) -> Result<Vec<Answer>, String> {
+        self.ask(input, lent).map_err(|error| {
             let ended = self.running.take().map(Running::end);
             let status = ended.map_or("not started".to_string(), |ended| format!("{ended:?}"));
             format!("{}: {error} ({status})", self.file.display())
@@ -47,9 +69,12 @@ impl Through {
     }
 }
 
-impl Program for Through {
-    fn call(&mut self, book: &[u8], lent: &mut [Lent]) -> Result<Vec<Answer>, String> {
-        self.asked(book, lent)
+impl<T> Program<T> for Through
+where
+    Lent<T>: Sent,
+{
+    fn call(&mut self, input: &[u8], lent: &mut [Lent<T>]) -> Result<Vec<Answer>, String> {
+        self.asked(input, lent)
     }
 }
 
@@ -59,24 +84,27 @@ impl Viewer for Through {
     }
 }
 
-/// What goes over the pipe and comes back, as `emulated/lend.c` has it.
-trait Sent {
+impl Call {
+    /// As `emulated/lend.c` has it.
+    fn number(self) -> u64 {
+        match self {
+            Call::Allot => 0,
+            Call::Columns => 1,
+            Call::Moves => 2,
+            Call::Ladder => 3,
+            Call::SheetToBook => 4,
+            Call::BookToSheet(mark) => 5 + 256 * u64::from(mark),
+            Call::Cutback => 6,
+            Call::AllotInRows => 7,
+        }
+    }
+}
+
+/// What is lent goes over the pipe and comes back, as `emulated/lend.c` has it.
+pub trait Sent {
     fn put(&mut self, bytes: &mut Vec<u8>);
 
     fn take(&mut self, from: &mut impl Read) -> io::Result<()>;
-}
-
-/// What is lent with a question, and the call that is asked for.
-trait Asked: Sent {
-    const CALL: u64;
-}
-
-impl Asked for Lent {
-    const CALL: u64 = 0;
-}
-
-impl Asked for Runs {
-    const CALL: u64 = 1;
 }
 
 impl Sent for Lent {
@@ -141,7 +169,7 @@ impl Running {
         })
     }
 
-    fn answer(&mut self, lent: &mut impl Asked) -> io::Result<Answer> {
+    fn answer(&mut self, lent: &mut impl Sent) -> io::Result<Answer> {
         let mut words = [0; 24];
         self.output.read_exact(&mut words)?;
         lent.take(&mut self.output)?;
@@ -169,12 +197,12 @@ impl Drop for Through {
     }
 }
 
-fn question<T: Asked>(book: &[u8], lent: &mut [T]) -> Vec<u8> {
+fn question<T: Sent>(call: Call, input: &[u8], lent: &mut [T]) -> Vec<u8> {
     let mut bytes = Vec::new();
-    for number in [T::CALL, book.len() as u64, lent.len() as u64] {
+    for number in [call.number(), input.len() as u64, lent.len() as u64] {
         bytes.extend(number.to_le_bytes());
     }
-    bytes.extend_from_slice(book);
+    bytes.extend_from_slice(input);
     lent.iter_mut().for_each(|one| one.put(&mut bytes));
     bytes
 }

@@ -1,31 +1,13 @@
-//! The command: the product beside the second program on generated lists of days in the longer form, by its call where it can be linked, and
-//! by its program. A small list with every byte replaced goes through the call first.
+//! The command: the product beside the second program on generated lists of days in the longer form, by its call and by its program. A small
+//! list with every byte replaced goes through the call first.
 
 use std::env;
 use std::process::ExitCode;
 
-use harness::lists::{Call, Tried};
+use harness::lists::Tried;
+use harness::product;
+use harness::through::Call;
 use second::days::{ladder, ladder_listing, longer, swept, Raise, Refusal, Step};
-
-#[cfg(linked)]
-mod product {
-    use harness::product::Answer;
-
-    extern "C" {
-        fn frundavel_ladder(list: *const u8, size: usize, steps: *mut u64, places: usize)
-            -> Answer;
-    }
-
-    pub fn ladder(list: &[u8], steps: &mut [u64]) -> Answer {
-        // SAFETY: both parts are valid for their lengths and do not overlap.
-        unsafe { frundavel_ladder(list.as_ptr(), list.len(), steps.as_mut_ptr(), steps.len()) }
-    }
-}
-
-#[cfg(linked)]
-const CALL: Option<Call<u64>> = Some(product::ladder);
-#[cfg(not(linked))]
-const CALL: Option<Call<u64>> = None;
 
 /// The steps as include/frundavel.h has them in a run: the kind in the low byte, and the days running above it.
 fn places(list: &[u8]) -> Result<Vec<u64>, Refusal> {
@@ -50,7 +32,7 @@ fn main() -> ExitCode {
         name: "ladder",
         listing: ladder_listing,
         places,
-        call: CALL,
+        call: (product::ladder, Call::Ladder),
         list: longer,
         also: swept().collect(),
     };

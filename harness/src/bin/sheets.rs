@@ -1,4 +1,4 @@
-//! The command: the product beside the second program on generated sheets and books, by its calls where they can be linked, and by its program.
+//! The command: the product beside the second program on generated sheets and books, by its calls and by its program.
 
 use std::env;
 use std::process::ExitCode;
@@ -13,5 +13,5 @@ const CALLS: Calls = Calls {
 
 fn main() -> ExitCode {
     let words: Vec<String> = env::args().skip(1).collect();
-    command(&words, cfg!(linked).then_some(CALLS))
+    command(&words, CALLS)
 }

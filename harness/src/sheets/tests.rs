@@ -5,7 +5,7 @@ use std::fs;
 use second::make;
 use second::sheet::{Mark, Work};
 
-use super::{answer_of, runs, stored, Calls, ENOUGH};
+use super::{answer_of, reads, runs, stored, writes, Calls, ENOUGH};
 use crate::product::Answer;
 
 fn answer((number, place, length): (u64, u64, u64)) -> Answer {
@@ -29,11 +29,12 @@ const INPUTS: u64 = 250;
 const SEED: u64 = 5;
 
 /// How many of the first generated sheets, and of the first generated books, find the calls right.
-fn found_right(calls: Calls) -> [u64; 2] {
-    let count = |good: &dyn Fn(u64) -> bool| (0..INPUTS).filter(|&index| good(index)).count();
+fn found_right(mut calls: Calls) -> [u64; 2] {
+    let count =
+        |good: &mut dyn FnMut(u64) -> bool| (0..INPUTS).filter(|&index| good(index)).count() as u64;
     [
-        count(&|index| calls.reads(&make::sheets::sheet(SEED, index).bytes)) as u64,
-        count(&|index| calls.writes(&make::book(SEED, index).bytes)) as u64,
+        count(&mut |index| reads(&mut calls, &make::sheets::sheet(SEED, index).bytes)),
+        count(&mut |index| writes(&mut calls, &make::book(SEED, index).bytes)),
     ]
 }
 
@@ -271,8 +272,8 @@ fn stored_answers_are_held_to() {
     write("comma/0.book", b"");
     write("comma/0.want", b"");
     write("comma/0.said", b"refused 2 at 0\n");
-    assert_eq!(stored(&folder, &RIGHT).unwrap().counts(), (2, 0));
+    assert_eq!(stored(&folder, &mut { RIGHT }).unwrap().counts(), (2, 0));
     write("read/0.said", b"refused 3 at 1\n");
-    assert_eq!(stored(&folder, &RIGHT).unwrap().counts(), (1, 1));
+    assert_eq!(stored(&folder, &mut { RIGHT }).unwrap().counts(), (1, 1));
     fs::remove_dir_all(folder).unwrap();
 }

@@ -1,30 +1,11 @@
 //! Request [13] through the C symbol beside the second program: generated seats, whole and damaged, with guards around the lent places, and
-//! numbers of any size.
-#![cfg(linked)]
+//! numbers of any size. Where the archive cannot be linked it is asked under the emulator.
 
+use crate::common::top;
+use harness::guarded::Lent;
 use harness::product::Answer;
 use second::cutback::{cut, Seat};
 use second::make::rng::Rng;
-
-extern "C" {
-    fn frundavel_cutback(
-        kind: *const u8,
-        kind_size: usize,
-        metal: *const u8,
-        metal_size: usize,
-        grams: u64,
-        codes: *const u8,
-        codes_size: usize,
-        sizes: *const u64,
-        sizes_count: usize,
-        lots: *const u64,
-        lots_count: usize,
-        cuts: *mut u64,
-        places: usize,
-    ) -> Answer;
-}
-
-const GUARD: u64 = 0xfeed_face_dead_beef;
 
 struct Case {
     kind: Vec<u8>,
@@ -34,7 +15,115 @@ struct Case {
     places: usize,
 }
 
-fn call(case: &Case) -> (Answer, Vec<u64>) {
+/// What a call is given beside the lent places.
+struct Given<'a> {
+    kind: &'a [u8],
+    metal: &'a [u8],
+    grams: u64,
+    codes: &'a [u8],
+    sizes: &'a [u64],
+    lots: &'a [u64],
+}
+
+#[cfg(linked)]
+mod product {
+    use super::{Answer, Given, Lent};
+
+    extern "C" {
+        fn frundavel_cutback(
+            kind: *const u8,
+            kind_size: usize,
+            metal: *const u8,
+            metal_size: usize,
+            grams: u64,
+            codes: *const u8,
+            codes_size: usize,
+            sizes: *const u64,
+            sizes_count: usize,
+            lots: *const u64,
+            lots_count: usize,
+            cuts: *mut u64,
+            places: usize,
+        ) -> Answer;
+    }
+
+    pub struct Product;
+
+    impl Product {
+        pub fn new() -> Self {
+            Product
+        }
+
+        pub fn call(&mut self, given: &Given, lent: &mut Lent<u64>) -> Answer {
+            let cuts = lent.room_mut();
+            // SAFETY: all parts are valid for their lengths, and the mutable one overlaps no other.
+            let answer = unsafe {
+                frundavel_cutback(
+                    given.kind.as_ptr(),
+                    given.kind.len(),
+                    given.metal.as_ptr(),
+                    given.metal.len(),
+                    given.grams,
+                    given.codes.as_ptr(),
+                    given.codes.len(),
+                    given.sizes.as_ptr(),
+                    given.sizes.len(),
+                    given.lots.as_ptr(),
+                    given.lots.len(),
+                    cuts.as_mut_ptr(),
+                    cuts.len(),
+                )
+            };
+            // A wrong call writes where the compiler takes it that nothing is written.
+            std::hint::black_box(lent);
+            answer
+        }
+    }
+}
+
+#[cfg(not(linked))]
+mod product {
+    use super::{Answer, Given, Lent};
+    use crate::common::emulated;
+    use harness::program::Program;
+    use harness::through::{Call, Through};
+
+    pub struct Product(Through);
+
+    impl Product {
+        pub fn new() -> Self {
+            let file = emulated().expect("it is not linked in");
+            Product(Through::new(&file, Call::Cutback))
+        }
+
+        pub fn call(&mut self, given: &Given, lent: &mut Lent<u64>) -> Answer {
+            let lent = std::slice::from_mut(lent);
+            let answers = self.0.call(&input(given), lent);
+            answers.expect("the product answers")[0]
+        }
+    }
+
+    /// As `emulated/lend.c` has it.
+    fn input(given: &Given) -> Vec<u8> {
+        let sizes = [given.kind.len(), given.metal.len()].map(|size| size as u64);
+        let counts = [given.codes.len(), given.sizes.len(), given.lots.len()].map(|n| n as u64);
+        let numbers = [&sizes, &[given.grams][..], &counts, given.sizes, given.lots].concat();
+        let numbers: Vec<u8> = numbers.into_iter().flat_map(u64::to_le_bytes).collect();
+        [&numbers, given.kind, given.metal, given.codes].concat()
+    }
+}
+
+use product::Product;
+
+/// So many runs of the program: fewer under the emulator.
+const RUNS: u64 = if cfg!(linked) { 1_000 } else { 300 };
+
+/// Places with guards around them, filled by their number.
+fn lent(case: &Case) -> Lent<u64> {
+    Lent::new(case.places, case.grams.wrapping_add(case.places as u64))
+}
+
+fn call(product: &mut Product, case: &Case) -> (Answer, Lent<u64>) {
     let codes: Vec<u8> = case
         .seats
         .iter()
@@ -50,35 +139,31 @@ fn call(case: &Case) -> (Answer, Vec<u64>) {
         .iter()
         .map(|seat| seat.lots.unwrap_or(u64::MAX))
         .collect();
-    called(case, &codes, &sizes, &lots)
+    called(product, case, &codes, &sizes, &lots)
 }
 
-fn called(case: &Case, codes: &[u8], sizes: &[u64], lots: &[u64]) -> (Answer, Vec<u64>) {
-    let mut lent = vec![GUARD; case.places + 2];
-    // SAFETY: all parts are valid for their lengths, and the mutable one overlaps no other.
-    let answer = unsafe {
-        frundavel_cutback(
-            case.kind.as_ptr(),
-            case.kind.len(),
-            case.metal.as_ptr(),
-            case.metal.len(),
-            case.grams,
-            codes.as_ptr(),
-            codes.len(),
-            sizes.as_ptr(),
-            sizes.len(),
-            lots.as_ptr(),
-            lots.len(),
-            lent.as_mut_ptr().wrapping_add(1),
-            case.places,
-        )
+fn called(
+    product: &mut Product,
+    case: &Case,
+    codes: &[u8],
+    sizes: &[u64],
+    lots: &[u64],
+) -> (Answer, Lent<u64>) {
+    let given = Given {
+        kind: &case.kind,
+        metal: &case.metal,
+        grams: case.grams,
+        codes,
+        sizes,
+        lots,
     };
-    (answer, lent)
+    let mut lent = lent(case);
+    (product.call(&given, &mut lent), lent)
 }
 
 /// What the second program says of it, as a call answers.
-fn wanted(case: &Case) -> (Answer, Vec<u64>) {
-    let mut lent = vec![GUARD; case.places + 2];
+fn wanted(case: &Case) -> (Answer, Lent<u64>) {
+    let mut lent = lent(case);
     let answer = |number, place, length| Answer {
         number,
         place,
@@ -88,7 +173,7 @@ fn wanted(case: &Case) -> (Answer, Vec<u64>) {
         Err(number) => (answer(number, 0, 0), lent),
         Ok(cuts) if cuts.len() > case.places => (answer(11, cuts.len() as u64, 0), lent),
         Ok(cuts) => {
-            lent[1..=cuts.len()].copy_from_slice(&cuts);
+            lent.room_mut()[..cuts.len()].copy_from_slice(&cuts);
             (answer(0, 0, cuts.len() as u64), lent)
         }
     }
@@ -188,10 +273,11 @@ fn damage(rng: &mut Rng, made: &mut Case, seats: &mut Vec<Seat>) {
 
 #[test]
 fn generated_seats() {
+    let mut product = Product::new();
     let mut numbers = std::collections::BTreeMap::new();
     for index in 0..300_000 {
         let made = case(&mut Rng::new(13, index));
-        let (answer, lent) = call(&made);
+        let (answer, lent) = call(&mut product, &made);
         assert_eq!(
             (answer, lent),
             wanted(&made),
@@ -220,9 +306,10 @@ fn uneven_parts() {
         seats: vec![],
         places: 4,
     };
-    let number = |codes: &[u8], sizes: &[u64], lots: &[u64]| {
-        let (answer, lent) = called(&made, codes, sizes, lots);
-        assert!(answer.number == 0 || lent.iter().all(|&place| place == GUARD));
+    let mut product = Product::new();
+    let mut number = |codes: &[u8], sizes: &[u64], lots: &[u64]| {
+        let (answer, after) = called(&mut product, &made, codes, sizes, lots);
+        assert!(answer.number == 0 || after == lent(&made));
         answer.number
     };
     assert_eq!(number(b"AB", &[1, 1], &[1500, 1500]), 0);
@@ -237,10 +324,9 @@ fn uneven_parts() {
 /// The program on generated lines, whole and with damaged bytes, beside the second program's listing.
 #[test]
 fn generated_lines() {
-    let top = std::path::Path::new(env!("CARGO_MANIFEST_DIR")).join("..");
-    let (run, program) = (top.join(".ci/x86-64"), top.join("target/bin/cutback"));
+    let (run, program) = (top().join(".ci/x86-64"), top().join("target/bin/cutback"));
     assert!(program.exists(), "run `make all` first");
-    for index in 0..1_000 {
+    for index in 0..RUNS {
         let mut rng = Rng::new(1313, index);
         let made = case(&mut rng);
         let mut lines = [&made.kind[..], b"\n", &made.metal, b"\n"].concat();

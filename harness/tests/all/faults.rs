@@ -15,7 +15,7 @@ use harness::fields::{fields, groups, value};
 use harness::product::Answer;
 use harness::program::Tried;
 use harness::run::{run, shrunk, Outcome, Plan};
-use harness::through::Through;
+use harness::through::{self, Through};
 
 type Call = fn(&[u8], &mut [u8]) -> Answer;
 type View = fn(&[u8], &mut [u8], [&mut [u64]; 3]) -> Answer;
@@ -316,10 +316,10 @@ fn the_first_difference_is_the_same_with_any_number_of_threads() {
 
 #[test]
 fn a_program_that_dies_is_a_difference_and_no_end_of_the_run() {
-    let dead = || Through::new(Path::new("false"));
+    let dead = |call| Through::new(Path::new("false"), call);
     let start = || Tried {
-        program: Box::new(dead()),
-        viewer: Box::new(dead()),
+        program: Box::new(dead(through::Call::Allot)),
+        viewer: Box::new(dead(through::Call::Columns)),
     };
     let first = run(Plan { count: 5, ..PLAN }, &start, &mut |_| ())
         .first

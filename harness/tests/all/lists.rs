@@ -2,6 +2,7 @@
 
 use harness::lists::{Call, Tried};
 use harness::product::Answer;
+use harness::through;
 use second::days::{list, listing, moves};
 
 fn answer(number: u64, place: u64, length: u64) -> Answer {
@@ -23,18 +24,19 @@ fn right(list: &[u8], run: &mut [u8]) -> Answer {
     }
 }
 
+const TRIED: Tried<u8> = Tried {
+    name: "moves",
+    listing,
+    places: moves,
+    call: (right, through::Call::Moves),
+    list,
+    also: Vec::new(),
+};
+
 /// How many of the first generated lists find a call right.
-fn found_right(call: Call<u8>) -> usize {
-    let tried = Tried {
-        name: "moves",
-        listing,
-        places: moves,
-        call: Some(call),
-        list,
-        also: Vec::new(),
-    };
+fn found_right(mut call: Call<u8>) -> usize {
     (0..LISTS)
-        .filter(|&index| tried.called(&list(5, index).0))
+        .filter(|&index| TRIED.called(&mut call, &list(5, index).0))
         .count()
 }
 
@@ -113,15 +115,7 @@ fn wrong_calls_are_found() {
 
 /// A shell script as the program, over an accepted list of one day and a refused one.
 fn told(script: &str, list: &[u8]) -> bool {
-    let tried = Tried::<u8> {
-        name: "moves",
-        listing,
-        places: moves,
-        call: None,
-        list: second::days::list,
-        also: Vec::new(),
-    };
-    tried.told(&["sh".into(), "-c".into(), script.into()], list)
+    TRIED.told(&["sh".into(), "-c".into(), script.into()], list)
 }
 
 #[test]

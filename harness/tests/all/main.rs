@@ -10,3 +10,4 @@ mod rearrange;
 mod shrink;
 mod statement;
 mod stored;
+mod through;

@@ -1,4 +1,6 @@
-//! What several test files need: a right program, and books to be wrong about.
+//! What several test files need: where the product is, a right program, and books to be wrong about.
+
+use std::path::{Path, PathBuf};
 
 use harness::compare::answer_of;
 use harness::fields::{fields, groups, value};
@@ -7,6 +9,21 @@ use harness::rearrange::Arrangement;
 use harness::statement::{held, read, Seat};
 use harness::trades::words;
 use second::columns::Runs;
+
+/// The project's folder.
+pub fn top() -> PathBuf {
+    Path::new(env!("CARGO_MANIFEST_DIR")).join("..")
+}
+
+/// What the product is asked through where it is not linked in.
+pub fn emulated() -> Option<PathBuf> {
+    let file = top().join("target/emulated/run");
+    assert!(
+        cfg!(linked) || file.exists(),
+        "run `harness/emulated/make` first"
+    );
+    (!cfg!(linked)).then_some(file)
+}
 
 /// The second program in the form of a program that is tried.
 pub fn right(book: &[u8], report: &mut [u8]) -> Answer {
