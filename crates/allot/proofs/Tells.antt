@@ -17,7 +17,7 @@ use Rattle.laws.specs.Digits.{digits-length-20}
 use Rattle.writing.specs.Written.{Wrote, written-nothing}
 use Rattle.reasons.specs.Reason.{fieldAt, said}
 use Rattle.reasons.specs.Sizes.{reason-short, said-length}
-use Rattle.allotment.specs.Answered.{Judged, Listed}
+use Rattle.allotment.specs.Listed.{Judged, Listed}
 use Rattle.allot.specs.Told.{statusOf, saidOf, Ends, Exit}
 
 -- a line has room

@@ -7,7 +7,7 @@ ghost use lib.ListN.{length};
 ghost use Prim.Native.Nat.{_≤_};
 ghost use Rattle.rules.specs.Book.{judge};
 ghost use Rattle.rules.specs.Report.{listing};
-ghost use Rattle.allotment.specs.Answered.{Listed};
+ghost use Rattle.allotment.specs.Listed.{Listed};
 ghost use Rattle.allot.specs.Told.{statusOf, saidOf, Ends, Exit};
 
 // One byte more than a book may have, so that a longer one is told.

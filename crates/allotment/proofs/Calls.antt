@@ -16,7 +16,7 @@ use Rattle.consequences.specs.ReportLength.{report-length}
 use Rattle.report.specs.Sheet.{reportBytes, listingBytes, Placed}
 use Rattle.allotment.specs.declared.Closed.{Closed}
 use Rattle.allotment.specs.Worked.{listingRoom, reportRoom, sheetOf, Shows}
-use Rattle.allotment.specs.Answered.{Judged}
+use Rattle.allotment.specs.Listed.{Judged}
 
 -- a refused book: nothing is written
 pub record Stops (s : List ℕ) (n place : ℕ) : Type 0 where

@@ -1,6 +1,5 @@
 pub mod Worked
-pub mod Answered
-pub mod Answering
+pub mod Listed
 pub mod Start
 pub mod Sides
 pub mod Shown

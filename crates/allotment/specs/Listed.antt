@@ -1,21 +1,11 @@
--- What a call returns and leaves in the lent buffer.
+-- What a listing leaves in the lent buffer, and what is told of what was judged.
 -- Assumes nothing.
 use Prim.Native.Nat.{ℕ, _≤_}
 use mathlib.Core.Path.{_≡_}
 use mathlib.Core.List.{List}
 use lib.ListN.{length}
-use Rattle.rules.specs.Answer.{lent}
-use Rattle.rules.specs.Answer.{Answer as Answer01}
 use Rattle.rules.specs.Book.{Verdict, Refused, Accepted}
 use Rattle.writing.specs.Written.{written}
-use Rattle.allotment.specs.declared.Answer.{Answer}
-
--- the three numbers are document 01's answer, and so is every byte of the buffer
-pub record Answered (a : Answer01) (r : Answer) (entry exit : List ℕ) : Type 0 where
-  pub number : r .number ≡ a .number
-  pub place : r .place ≡ a .place
-  pub length : r .length ≡ a .length
-  pub buffer : exit ≡ lent a entry
 
 -- a text stands at the front of the buffer, and all else is as it was
 pub record Listed (text entry exit : List ℕ) (r : ℕ) : Type 0 where

@@ -1,4 +1,5 @@
 // The call: a book and a lent buffer in; a number, a place and a length out.
+use answers::Answer;
 use cascade::Cascade;
 use rules::MOST_CUSTOMERS;
 use rules::refusal;
@@ -8,10 +9,11 @@ ghost use lib.ListN.{length};
 ghost use Rattle.rules.specs.Book.{judge};
 ghost use Rattle.rules.specs.Answer.{fitted, answer};
 ghost use Rattle.rules.specs.Report.{listing};
+ghost use Rattle.answers.specs.Answered.{Answered};
 ghost use Rattle.cascade.specs.Columns.{columns};
 ghost use Rattle.cascade.specs.State.{Steady};
 ghost use Rattle.report.specs.Sheet.{sheet, reportBytes, Placed};
-ghost use Rattle.allotment.specs.Answered.{Answered, Listed, Judged};
+ghost use Rattle.allotment.specs.Listed.{Listed, Judged};
 ghost use Rattle.allotment.specs.Worked.{listingRoom, reportRoom, atFirst, closedOf};
 
 // A buffer that every listing fits: 256 lines of at most 26 bytes, and at most 33 before them.
@@ -53,15 +55,6 @@ pub fn close(keys: &[u64], standings: &[u8], stakes: &[u32], count: usize, in_ro
         total: total,
         residue: less(owed, total),
     }
-}
-
-// The answer of a call. Accepted: 0, place 0 and the report's length. Refused: the number, its place and length 0; for 11 the place
-// is the length needed.
-#[repr(C)]
-pub struct Answer {
-    pub number: u64,
-    pub place: u64,
-    pub length: u64,
 }
 
 // The report at the front of a lent buffer that has room for it.

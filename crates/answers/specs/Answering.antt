@@ -11,7 +11,7 @@ use Rattle.rules.specs.Refusal as refusal
 use Rattle.rules.specs.Answer.{fitted}
 use Rattle.rules.specs.Answer.{refused as refused01}
 use Rattle.writing.specs.Written.{written, written-front}
-use Rattle.allotment.specs.Answered.{Answered}
+use Rattle.answers.specs.Answered.{Answered}
 
 -- a refusal leaves the buffer as it was
 pub refused-so : (n place : ℕ) (entry : List ℕ) → Answered (refused01 n place) (record { number = n; place = place; length = 0 }) entry entry

@@ -11,7 +11,7 @@ use Rattle.rules.specs.Cascade.{lineOf, outcome}
 use Rattle.rules.specs.Report.{letter}
 use Rattle.rules.specs.Answer.{refused, fitted, lent}
 use Rattle.rules.specs.Answer.{Answer as Answer01}
-use Rattle.allotment.specs.declared.Answer.{Answer}
+use Rattle.answers.specs.declared.Answer.{Answer}
 use Rattle.columns.specs.Layouts.{toColumns}
 
 -- the four runs that a viewer lends

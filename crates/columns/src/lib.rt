@@ -1,5 +1,5 @@
 // The call for a viewer that reads column by column: a book and four lent runs in; a number, a place and a length out.
-use allotment::Answer;
+use answers::Answer;
 use rules::MOST_CUSTOMERS;
 use rules::Standing;
 use rules::lesser;

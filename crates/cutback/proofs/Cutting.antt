@@ -18,9 +18,9 @@ use Rattle.laws.specs.ByTest.{by-test, not-either}
 use Rattle.laws.specs.Sums.{upTo}
 use Rattle.laws.specs.Indices.{length-map-upTo}
 use Rattle.laws.specs.Filled.{filled}
-use Rattle.allotment.specs.declared.Answer.{Answer}
-use Rattle.allotment.specs.Answered.{Answered}
-use Rattle.allotment.specs.Answering.{refused-so, too-small}
+use Rattle.answers.specs.declared.Answer.{Answer}
+use Rattle.answers.specs.Answered.{Answered}
+use Rattle.answers.specs.Answering.{refused-so, too-small}
 use Rattle.cutback.specs.declared.walk.Read.{Read}
 use Rattle.cutback.specs.declared.seats.Total.{Total}
 use Rattle.cutback.specs.Limit.{byMetal, tons, mayStay}

@@ -1,12 +1,12 @@
 // The lots that are cut at each seat of a customer over the position limit: Articles 34 and 52 (2) 3, as request [13] has them.
-use allotment::Answer;
+use answers::Answer;
 use rules::refusal;
 ghost use mathlib.Core.Path.{_≡_};
 ghost use mathlib.Core.List.{map};
 ghost use lib.ListN.{length};
 ghost use Rattle.rules.specs.Answer.{fitted};
 ghost use Rattle.laws.specs.Sums.{upTo};
-ghost use Rattle.allotment.specs.Answered.{Answered};
+ghost use Rattle.answers.specs.Answered.{Answered};
 ghost use Rattle.cutback.specs.Limit.{byMetal, tons};
 ghost use Rattle.cutback.specs.Lines.{codesIn, codesAhead, codesFrom};
 ghost use Rattle.cutback.specs.Judge.{gramsBad, countBad, judge, answerOf};

@@ -18,8 +18,8 @@ use Rattle.rules.specs.Codes.{same}
 use Rattle.rules.specs.Division.{oneIf}
 use Rattle.rules.specs.Answer.{lent}
 use Rattle.rules.specs.Answer.{Answer as Answer01}
-use Rattle.allotment.specs.declared.Answer.{Answer}
-use Rattle.allotment.specs.Answered.{Answered}
+use Rattle.answers.specs.declared.Answer.{Answer}
+use Rattle.answers.specs.Answered.{Answered}
 use Rattle.cases.specs.Case.{Holds, so}
 use Rattle.cutback.specs.Lines.{codesIn, codesAhead}
 use Rattle.cutback.specs.Judge.{judge, answerOf}

@@ -11,8 +11,8 @@ use denote.Triple.Entry.{Args, Res}
 use denote.Triple.Clauses.{Ended, Lasts, AtExit, atExit}
 use Rattle.writing.specs.Written.{Wrote}
 use Rattle.rules.specs.Answer.{Answer as Answer01}
-use Rattle.allotment.specs.declared.Answer.{Answer}
-use Rattle.allotment.specs.Answered.{Answered}
+use Rattle.answers.specs.declared.Answer.{Answer}
+use Rattle.answers.specs.Answered.{Answered}
 use Rattle.command.proofs as command
 use Rattle.reasons.proofs as reasons
 use Rattle.cutback.proofs as cutback

@@ -27,8 +27,8 @@ use Rattle.reasons.specs.Lines.{behindLines, firstLine, lineOf}
 use Rattle.reasons.specs.Reason.{noTag, said}
 use Rattle.reasons.specs.Sizes.{reason-short, said-length}
 use Rattle.reasons.proofs.Texts.{line-part, all-left}
-use Rattle.allotment.specs.declared.Answer.{Answer}
-use Rattle.allotment.specs.Answered.{Answered}
+use Rattle.answers.specs.declared.Answer.{Answer}
+use Rattle.answers.specs.Answered.{Answered}
 use Rattle.cutback.specs.Limit.{tons, mayStay}
 use Rattle.cutback.specs.Seats.{Seat, seatsOf, cutOf, excess, cutsOf}
 use Rattle.cutback.specs.Lines.{linesOf, codesAhead}

@@ -1,6 +1,6 @@
 // The program: the type, the metal, the grams and the seats from a file or from standard input; the lots cut at each seat to standard output,
 // the words of a refusal to standard error, and a status.
-use allotment::Answer;
+use answers::Answer;
 use printing::put_refusal;
 use printing::put_worded;
 use rules::Figure;
@@ -15,7 +15,8 @@ ghost use Prim.Native.Nat.{_+_, _≤_, min};
 ghost use lib.ListN.{length, take};
 ghost use Rattle.rules.specs.Opening.{upToBlank};
 ghost use Rattle.writing.specs.Written.{Room, Wrote};
-ghost use Rattle.allotment.specs.Answered.{Answered, Listed};
+ghost use Rattle.answers.specs.Answered.{Answered};
+ghost use Rattle.allotment.specs.Listed.{Listed};
 ghost use Rattle.cutback.specs.Lines.{linesOf, codesAhead};
 ghost use Rattle.cutback.specs.Judge.{answerOf};
 ghost use Rattle.cutting.specs.Told.{orElse, gramsOf, lotsOf, read, verdict, row, rows, listing, saidOf, statusOf, Ends, Exit};

@@ -3,7 +3,7 @@
 use Prim.Native.Nat.{ℕ}
 use mathlib.Core.List.{List}
 use Rattle.rules.specs.Answer.{Answer as Answer01}
-use Rattle.allotment.specs.Answered.{Answered}
+use Rattle.answers.specs.Answered.{Answered}
 use Rattle.watch.specs.declared.Found.{Found}
 use Rattle.watch.specs.Answered.{Answered as Listed}
 use Rattle.sheets.specs.declared.Found.{Found as SheetFound}

@@ -1,11 +1,11 @@
 // Every call for C, in one archive. A call takes the bytes as they come and asks for nothing.
-use allotment::Answer;
+use answers::Answer;
 use rules::refusal;
 use writing::put_bytes;
 ghost use lib.ListN.{length};
 ghost use Rattle.rules.specs.Answer.{fitted, answer};
 ghost use Rattle.reasons.specs.Reason.{fieldAt, reason};
-ghost use Rattle.allotment.specs.Answered.{Answered};
+ghost use Rattle.answers.specs.Answered.{Answered};
 ghost use Rattle.columns.specs.View.{runs, placesOf, viewed, Viewed};
 ghost use Rattle.cutback.specs.Lines.{codesIn};
 ghost use Rattle.cutback.specs.Judge.{judge, answerOf};

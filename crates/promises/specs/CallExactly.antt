@@ -12,7 +12,7 @@ use Rattle.rules.specs.Book.{Customer}
 use Rattle.rules.specs.Cascade.{outcome}
 use Rattle.rules.specs.Report.{report}
 use Rattle.rules.specs.Answer.{answer}
-use Rattle.allotment.specs.Answered.{Answered}
+use Rattle.answers.specs.Answered.{Answered}
 use Rattle.promises.specs.Call.{Call, bookOf, lentTo, leftBy}
 use Rattle.promises.specs.Outcomes.{Fits, accepted-fits, fits-accepted}
 use Rattle.promises.specs.Given.{SoundBook}

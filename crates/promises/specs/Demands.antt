@@ -13,8 +13,8 @@ use Rattle.rules.specs.Book.{Customer, Verdict, Refused, Accepted, judge}
 use Rattle.rules.specs.Cascade.{outcome}
 use Rattle.rules.specs.Report.{report}
 use Rattle.rules.specs.Answer.{answer}
-use Rattle.allotment.specs.declared.Answer.{Answer}
-use Rattle.allotment.specs.Answered.{Answered}
+use Rattle.answers.specs.declared.Answer.{Answer}
+use Rattle.answers.specs.Answered.{Answered}
 use Rattle.promises.specs.Call.{Call, bookOf, lentTo, leftBy}
 use Rattle.laws.specs.ByTest.{by-test}
 use Rattle.promises.specs.Outcomes.{Fits, accepted-fits}

@@ -9,9 +9,10 @@ use Rattle.writing.specs.Written.{Wrote}
 use Rattle.roll.specs.declared.Roll.{Roll}
 use Rattle.roll.specs.Roll.{Columns, Rolled}
 use Rattle.rules.specs.Answer.{Answer as Answer01}
-use Rattle.allotment.specs.declared.Answer.{Answer}
+use Rattle.answers.specs.declared.Answer.{Answer}
 use Rattle.allotment.specs.declared.Listing.{Listing}
-use Rattle.allotment.specs.Answered.{Answered, Judged}
+use Rattle.answers.specs.Answered.{Answered}
+use Rattle.allotment.specs.Listed.{Judged}
 use Rattle.columns.specs.View.{Runs, runs, Viewed}
 use Rattle.division.proofs as division
 use Rattle.cascade.proofs as cascade

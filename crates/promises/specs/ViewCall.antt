@@ -22,7 +22,7 @@ use Rattle.rules.specs.Answer.{lent}
 use Rattle.laws.specs.ByTest.{by-test}
 use Rattle.laws.specs.Sane.{refused-above}
 use Rattle.consequences.specs.Lines.{lines-many}
-use Rattle.allotment.specs.declared.Answer.{Answer}
+use Rattle.answers.specs.declared.Answer.{Answer}
 use Rattle.cascade.specs.State.{offsetOf}
 use Rattle.columns.specs.Layouts.{standingOf, offeredOf}
 use Rattle.columns.specs.View.{Runs, runs, view, placesOf, viewedOf, viewed, Viewed}

@@ -1,8 +1,8 @@
 // The call worked in rows: for the comparison and the benchmark of both layouts. The product's archive has none of it.
-use allotment::Answer;
+use answers::Answer;
 ghost use lib.ListN.{length};
 ghost use Rattle.rules.specs.Answer.{answer};
-ghost use Rattle.allotment.specs.Answered.{Answered};
+ghost use Rattle.answers.specs.Answered.{Answered};
 
 #[no_mangle]
 pub extern "C" fn frundavel_allot_in_rows(book: &[u8], report: &mut [u8]) -> Answer

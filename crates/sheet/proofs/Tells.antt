@@ -18,7 +18,7 @@ use Rattle.laws.specs.Digits.{digits-length-20}
 use Rattle.writing.specs.Written.{Wrote, written-nothing}
 use Rattle.reasons.specs.Reason.{fieldAt, said}
 use Rattle.reasons.specs.Sizes.{reason-short, said-length}
-use Rattle.allotment.specs.Answered.{Listed}
+use Rattle.allotment.specs.Listed.{Listed}
 use Rattle.shell.specs.declared.Input.{Input}
 use Rattle.shell.specs.declared.Input.the-variants.{Bytes, Ended}
 use Rattle.shell.specs.Shell.{Came}

@@ -7,7 +7,7 @@ ghost use mathlib.Core.Path.{_≡_};
 ghost use Prim.Native.Nat.{_≤_};
 ghost use lib.ListN.{length};
 ghost use Rattle.shell.specs.Shell.{Came};
-ghost use Rattle.allotment.specs.Answered.{Listed};
+ghost use Rattle.allotment.specs.Listed.{Listed};
 ghost use Rattle.sheets.specs.Answers.{toBook, toSheet};
 ghost use Rattle.sheet.specs.Words.{isOption, taskOf, spellingOf};
 ghost use Rattle.sheet.specs.Told.{statusOf, saidOf, Ends, Low, Exit};

@@ -1,7 +1,7 @@
 -- The roll, and the cascade over its columns, are the answer.
 -- Assumes nothing.
 use Rattle.roll.specs.Roll.{Room}
-use Rattle.allotment.specs.Answering.{refused-so}
+use Rattle.answers.specs.Answering.{refused-so}
 use Rattle.allotment.specs.Rolls.{refuses, Accepts, accepts, steady, shows}
 use Rattle.allotment.proofs.Calls.{Stops, stops, Goes, goes}
 use borrow.Author.Needs.{needs}

@@ -1,7 +1,7 @@
 -- `allotment::report_lines` meets its contract: no report is longer than a buffer that every report fits; else 11 where it is longer than the buffer.
 -- Assumes nothing.
 use Rattle.report.specs.Sheet.{sheet, reportBytes}
-use Rattle.allotment.specs.Answering.{too-small}
+use Rattle.answers.specs.Answering.{too-small}
 use borrow.Author.Needs.{needs}
 use Rattle.allotment.proofs.report_lines.Statement.{statement}
 use Rattle.allotment.proofs.report_lines.Tie as tie

@@ -1,7 +1,7 @@
 -- `allotment::write_lines` meets its contract: what is written is the report, which fits.
 -- Assumes nothing.
 use Rattle.report.specs.Sheet.{sheet, reportBytes}
-use Rattle.allotment.specs.Answering.{fits}
+use Rattle.answers.specs.Answering.{fits}
 use borrow.Author.Needs.{needs}
 use Rattle.allotment.proofs.write_lines.Statement.{statement}
 use Rattle.allotment.proofs.write_lines.Tie as tie

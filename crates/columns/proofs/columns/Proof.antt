@@ -6,7 +6,7 @@ use mathlib.Core.List.{List}
 use native.Mathlib.Omega.{arith}
 use Rattle.rules.specs.Answer.{Answer as Answer01}
 use Rattle.roll.specs.Roll.{Room}
-use Rattle.allotment.specs.declared.Answer.{Answer}
+use Rattle.answers.specs.declared.Answer.{Answer}
 use Rattle.allotment.specs.Rolls.{refuses, Accepts, accepts, steady, shows}
 use Rattle.columns.specs.View.{Runs, Viewed}
 use Rattle.columns.proofs.Fitting.{refused-so}

@@ -2,7 +2,7 @@
 -- Assumes nothing.
 use lib.ListN.{length}
 use borrow.Author.Tests.{lt-ltb, le-ltb}
-use Rattle.allotment.specs.Answering.{refused-so}
+use Rattle.answers.specs.Answering.{refused-so}
 use Rattle.cutting.specs.Told.{verdict}
 use borrow.Author.Needs.{needs}
 use Rattle.cutting.proofs.answer_of.Statement.{statement}

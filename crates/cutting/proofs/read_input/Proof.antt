@@ -6,7 +6,7 @@ use native.Mathlib.Omega.{arith}
 use lib.ListN.{length, drop, length-take, length-drop}
 use lib.Seq.{take-all}
 use Rattle.reasons.proofs.Texts.{first-short, line-within, line-part}
-use Rattle.allotment.specs.Answered.{Answered}
+use Rattle.answers.specs.Answered.{Answered}
 use Rattle.cutback.specs.Judge.{Verdict, answerOf}
 use Rattle.cutting.specs.Told.{gramsOf}
 use Rattle.cutting.proofs.Telling.{read-so, first-line}

@@ -10,7 +10,7 @@ use lib.Seq.{take-all}
 use mir.Syntax.{w64}
 use mir.Val.{Fits}
 use Rattle.writing.specs.Written.{Wrote, written-nothing}
-use Rattle.allotment.specs.Answered.{Listed}
+use Rattle.allotment.specs.Listed.{Listed}
 use Rattle.cutback.specs.Lines.{linesOf, codesAhead}
 use Rattle.cutback.specs.Judge.{Verdict}
 use Rattle.cutting.specs.Told.{seats, rows, listing, saidOf, statusOf}

@@ -10,7 +10,7 @@ use Rattle.rules.specs.Answer.{fitted}
 use Rattle.writing.specs.Written.{Room}
 use Rattle.reasons.specs.Reason.{reason}
 use Rattle.reasons.specs.Sizes.{reason-short}
-use Rattle.allotment.specs.Answered.{Answered}
+use Rattle.answers.specs.Answered.{Answered}
 use Rattle.frundavel.proofs.Front.{within, front, front-size}
 use Rattle.frundavel.proofs.frundavel_reason.Statement.{statement}
 use Rattle.frundavel.proofs.frundavel_reason.Tie as tie

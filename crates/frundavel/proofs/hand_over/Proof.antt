@@ -2,7 +2,7 @@
 -- Assumes nothing.
 use mathlib.Core.Path.{refl}
 use borrow.Author.Needs.{needs}
-use Rattle.allotment.specs.Answering.{too-small, fits}
+use Rattle.answers.specs.Answering.{too-small, fits}
 use Rattle.frundavel.proofs.hand_over.Statement.{statement}
 use Rattle.frundavel.proofs.hand_over.Tie as tie
 
