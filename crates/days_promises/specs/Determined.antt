@@ -8,8 +8,8 @@ use contract.Lifetimes.{Lfts}
 use denote.Triple.Entry.{Args, Res}
 use denote.Triple.Clauses.{Ended, Lasts, AtExit, atExit}
 use Rattle.rules.specs.Answer.{Answer as Answer01}
-use Rattle.watch.specs.declared.Found.{Found}
-use Rattle.watch.specs.Answered.{Answered}
+use Rattle.answers.specs.declared.Answer.{Answer}
+use Rattle.answers.specs.Answered.{Answered}
 use Rattle.days.proofs as days
 use Rattle.watch.proofs as watch
 use Rattle.locks.proofs as locks
@@ -37,11 +37,11 @@ pub judge : Determined days.judge.ended days.judge.Reads.Learnt
 judge κs a r q s t e f = (e ∙ sym f, refl)
 
 -- watch
-found : (r q : Found) → r .number ≡ q .number → r .place ≡ q .place → r .length ≡ q .length → r ≡ q
-found r q n p l i = record { number = n i; place = p i; length = l i }
+same : (r q : Answer) → r .number ≡ q .number → r .place ≡ q .place → r .length ≡ q .length → r ≡ q
+same r q n p l i = record { number = n i; place = p i; length = l i }
 
-answered : {a : Answer01} {r q : Found} {entry x y : List ℕ} → Answered a r entry x → Answered a q entry y → (r ≡ q) × (x ≡ y)
-answered {a} {r} {q} e f = (found r q (e .number ∙ sym (f .number)) (e .place ∙ sym (f .place)) (e .length ∙ sym (f .length)), e .run ∙ sym (f .run))
+answered : {a : Answer01} {r q : Answer} {entry x y : List ℕ} → Answered a r entry x → Answered a q entry y → (r ≡ q) × (x ≡ y)
+answered {a} {r} {q} e f = (same r q (e .number ∙ sym (f .number)) (e .place ∙ sym (f .place)) (e .length ∙ sym (f .length)), e .buffer ∙ sym (f .buffer))
 
 pub moves-in : Determined watch.moves_in.ended watch.moves_in.Reads.Learnt
 moves-in κs a r q s t e f = (answered e f .0, ap (λ (l : List ℕ). (tt, (tt, (l, tt)))) (answered e f .1))

@@ -85,12 +85,7 @@ pub extern "C" fn frundavel_cutback(
 pub extern "C" fn frundavel_moves(list: &[u8], spans: &mut [u8]) -> Answer
     ensures { λ r. ⌜ Answered (moves (now (list .entry)) (length (now (spans .entry)))) r (now (spans .entry)) (now (spans .exit)) ⌝ }
 {
-    let found = watch::moves(list, spans);
-    Answer {
-        number: found.number,
-        place: found.place,
-        length: found.length,
-    }
+    watch::moves(list, spans)
 }
 
 // A list of days with marks and limits, and a lent run: the answer, and in the first places of the run a rung for each day where the list is
@@ -99,12 +94,7 @@ pub extern "C" fn frundavel_moves(list: &[u8], spans: &mut [u8]) -> Answer
 pub extern "C" fn frundavel_ladder(list: &[u8], steps: &mut [u64]) -> Answer
     ensures { λ r. ⌜ Answered (ladder (now (list .entry)) (length (now (steps .entry)))) r (now (steps .entry)) (now (steps .exit)) ⌝ }
 {
-    let found = locks::ladder(list, steps);
-    Answer {
-        number: found.number,
-        place: found.place,
-        length: found.length,
-    }
+    locks::ladder(list, steps)
 }
 
 // A sheet and a lent buffer: the answer, and the book that the sheet makes at the front of the buffer, accepted or refused.

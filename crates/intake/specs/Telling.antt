@@ -2,17 +2,22 @@
 -- Assumes nothing.
 use Prim.Native.Nat.{ℕ, zero, suc, _+_, _≤_}
 use mathlib.Core.Path.{_≡_, refl, sym, ap, subst, _∙_}
-use mathlib.Core.List.{List, []}
+use mathlib.Core.List.{List, [], _++_}
 use mathlib.Core.Logic.{⊎-elim}
 use native.Mathlib.Omega.{arith}
 use native.Mathlib.Nat.{zero-add, add-zero}
-use lib.ListN.{length}
+use lib.ListN.{length, take, drop}
+use lib.Seq.{take-at}
+use borrow.Author.Tests.{le-ltb}
 use mir.Syntax.{w32, w64}
 use mir.Val.{Fits, SFits, toZ}
 use lib.IntN.{pos}
 use Rattle.rules.specs.Report.{listingOf}
 use Rattle.rules.specs.Book.{Refused as BookRefused}
+use Rattle.rules.specs.Answer.{fitted}
 use Rattle.laws.specs.Digits.{digits-length-20}
+use Rattle.answers.specs.declared.Answer.{Answer}
+use Rattle.answers.specs.Answered.{Answered}
 use Rattle.printing.specs.Printed.{refusal-length}
 use Rattle.days.specs.Listed.{Verdict, Refused, Accepted}
 use Rattle.writing.specs.Written.{Wrote, written-nothing, written-length}
@@ -34,6 +39,16 @@ put-so {s} {t} {a} {b} {r} w e h =
 
 pub put-none : {t : List ℕ} (a : List ℕ) → [] ≡ t → Put t a a 0
 put-none a e = subst (λ (x : List ℕ). Put x a a 0) e (record { buffer = sym (written-nothing 0 a); size = refl; room = omega arith })
+
+-- where a call's numbers fit the run, they stand at its front
+pub fits-run : (bs entry exit : List ℕ) (r : Answer) → length bs ≤ length entry → Answered (fitted (length entry) bs) r entry exit →
+    (r .number ≡ 0) × (r .length ≡ length bs) × (exit ≡ bs ++ drop (length bs) entry)
+fits-run bs entry exit r h a =
+    let b : Answered (record { number = 0; place = 0; length = length bs; report = bs }) r entry exit = rw (le-ltb (length entry) (length bs) h) at a in
+    (b .number, b .length, b .buffer)
+
+pub front-of : (bs rest exit : List ℕ) (n : ℕ) → n ≡ length bs → exit ≡ bs ++ rest → take n exit ≡ bs
+front-of bs rest exit n e h = ap (take n) h ∙ take-at bs rest n (sym e)
 
 -- every status is 0, 1 or 2
 pub small : (v : Verdict) (r : ℕ) → Ends v r → r ≤ 2

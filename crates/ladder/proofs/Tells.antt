@@ -9,17 +9,17 @@ use lib.ListN.{length, take, drop, length-append}
 use Rattle.rules.specs.Text.{bytes}
 use Rattle.rules.specs.Report.{listingOf}
 use Rattle.rules.specs.Book.{Refused as BookRefused}
+use Rattle.answers.specs.declared.Answer.{Answer}
+use Rattle.answers.specs.Answered.{Answered}
 use Rattle.days.specs.declared.Mark.the-variants.{Unlocked}
 use Rattle.days.specs.declared.Day.{Day}
 use Rattle.days.specs.Lines.{feeds}
 use Rattle.days.specs.Listed.{Verdict, Refused, Accepted, verdictOf}
 use Rattle.days.specs.Few.{accepted-few}
 use Rattle.days.specs.Above.{refused-above}
-use Rattle.watch.specs.declared.Found.{Found}
-use Rattle.watch.specs.Answered.{Answered}
-use Rattle.watch.proofs.Answers.{fits-run, front-of}
 use Rattle.reasons.specs.Reason.{noTag, said}
 use Rattle.intake.specs.Told.{statusBy, saidBy}
+use Rattle.intake.specs.Telling.{fits-run, front-of}
 use Rattle.locks.specs.Ladder.{steps}
 use Rattle.locks.specs.Listing.{rungOf, answerOf, ladderIn, listed, listingBy}
 use Rattle.locks.specs.Rungs.{stepOf, steps-rungs}
@@ -27,14 +27,14 @@ use Rattle.locks.specs.Climbing.{rungs-length}
 use Rattle.ladder.specs.Sizes.{listingRoom, listed-short}
 
 -- an accepted list, and a refused one
-pub record Took (v : Verdict) (r : Found) (exit : List ℕ) : Type 0 where
+pub record Took (v : Verdict) (r : Answer) (exit : List ℕ) : Type 0 where
   pub inside : r .length ≤ length exit
   pub listing : listed (map stepOf (take (r .length) exit)) ≡ listingBy v
   pub short : length (listed (map stepOf (take (r .length) exit))) ≤ listingRoom
   pub silent : [] ≡ saidBy (bytes "ladder") v
   pub status : 0 ≡ statusBy v
 
-pub record Not (v : Verdict) (r : Found) : Type 0 where
+pub record Not (v : Verdict) (r : Answer) : Type 0 where
   pub listing : listingOf (BookRefused (r .number) (r .place)) ≡ listingBy v
   pub line : said (bytes "ladder") (r .number) (r .place) noTag ≡ saidBy (bytes "ladder") v
   pub status : 1 ≡ statusBy v
@@ -46,7 +46,7 @@ rungs-size : (ds : List Day) → length (rungs ds) ≡ length ds
 unfolding steps
 rungs-size ds = rungs-length Unlocked 0 ds
 
-module _ (total : ℕ) (s entry exit : List ℕ) (r : Found) (least : feeds s ≤ total) (room : 2_000 ≤ length entry) where
+module _ (total : ℕ) (s entry exit : List ℕ) (r : Answer) (least : feeds s ≤ total) (room : 2_000 ≤ length entry) where
   took-by : (v : Verdict) → verdictOf true total s ≡ v → Answered (answerOf (length entry) v) r entry exit → r .number ≡ 0 → Took v r exit
   took-by (Refused n place) e a z = absurd (omega (arith, a .number, refused-above true total s n place e))
   took-by (Accepted metal ds) e a z =

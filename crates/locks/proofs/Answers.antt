@@ -7,6 +7,7 @@ use mathlib.Core.List.{List}
 use native.Mathlib.Omega.{arith}
 use lib.ListN.{length, drop}
 use Rattle.rules.specs.Answer.{fitted}
+use Rattle.answers.specs.Answered.{Answered}
 use Rattle.days.specs.declared.Mark.the-variants.{Unlocked}
 use Rattle.days.specs.declared.Metal.{Metal}
 use Rattle.days.specs.declared.Judged.the-variants.{Accepted as Taken}
@@ -16,8 +17,7 @@ use Rattle.days.specs.Listed.{Days, All, Verdict, Refused, Accepted, daysFrom, 
 use Rattle.days.specs.Places.{startOf, judgedAs}
 use Rattle.days.specs.Heads.{accepted-days}
 use Rattle.days.specs.Few.{accepted-few}
-use Rattle.watch.specs.Answered.{Answered}
-use Rattle.watch.proofs.Answers.{found, taken-view, from-there}
+use Rattle.watch.proofs.Answers.{taken-view, from-there}
 use Rattle.locks.specs.Ladder.{steps}
 use Rattle.locks.specs.Listing.{answerOf, ladderIn, ladder}
 use Rattle.locks.specs.Climbing.{rungsIn, rungs-length, Countable}
@@ -45,11 +45,11 @@ module _ (total : ℕ) (s : List ℕ) where
       let read : daysFrom true 1 (linesOf (drop start s)) ≡ All ds = from-there true s start ds at (accepted-days true total s metal ds v) in
       ap (answerOf room) v ∙ ap (λ (r : Days). fitted room (rungsIn r)) (sym read)
 
-  refused-view : (st : ℕ) (v : Verdict) (n place room : ℕ) (entry : List ℕ) → judgedAs st v ≡ NotTaken n place → Answered (answerOf room v) (found n place 0) entry entry
-  refused-view st (Refused m at) n place room entry h = record { number = cc; place = cc; length = refl; run = refl }
+  refused-view : (st : ℕ) (v : Verdict) (n place room : ℕ) (entry : List ℕ) → judgedAs st v ≡ NotTaken n place → Answered (answerOf room v) (record { number = n; place = place; length = 0 }) entry entry
+  refused-view st (Refused m at) n place room entry h = record { number = cc; place = cc; length = refl; buffer = refl }
   refused-view st (Accepted metal ds) n place room entry h = absurd (let z : _≡_ {A = ℕ} 0 1 = cc in omega arith)
 
-  pub refused : (n place room : ℕ) (entry : List ℕ) → judgedAs (startOf s) (verdictOf true total s) ≡ NotTaken n place → Answered (ladderIn total s room) (found n place 0) entry entry
+  pub refused : (n place room : ℕ) (entry : List ℕ) → judgedAs (startOf s) (verdictOf true total s) ≡ NotTaken n place → Answered (ladderIn total s room) (record { number = n; place = place; length = 0 }) entry entry
   unfolding ladderIn
   refused n place room entry h = refused-view (startOf s) (verdictOf true total s) n place room entry h
 

@@ -2,6 +2,7 @@
 mod lock;
 mod rung;
 
+use answers::Answer;
 use days::Judged;
 use days::Mark;
 use days::Next;
@@ -12,16 +13,15 @@ use rules::refusal;
 use rung::KINDS;
 use rung::rung_of;
 use rung::step_at;
-use watch::Found;
 ghost use mathlib.Core.Path.{_≡_};
 ghost use mathlib.Core.Bool.{true};
 ghost use Prim.Native.Nat.{_≤_};
 ghost use lib.ListN.{length, drop};
 ghost use Rattle.rules.specs.Answer.{fitted};
+ghost use Rattle.answers.specs.Answered.{Answered};
 ghost use Rattle.days.specs.Lines.{linesOf, feeds};
 ghost use Rattle.days.specs.Listed.{daysFrom};
 ghost use Rattle.writing.specs.Written.{written};
-ghost use Rattle.watch.specs.Answered.{Answered};
 ghost use Rattle.locks.specs.Listing.{ladderIn, ladder};
 ghost use Rattle.locks.specs.Rungs.{stepOf};
 ghost use Rattle.locks.specs.Climbing.{rungsIn, Climbable, Countable};
@@ -77,19 +77,19 @@ fn fill(s: &[u8], start: usize, count: usize, steps: &mut [u64])
 }
 
 // 11, or the steps of the days in the first places of the run.
-fn show(s: &[u8], start: usize, count: usize, steps: &mut [u64]) -> Found
+fn show(s: &[u8], start: usize, count: usize, steps: &mut [u64]) -> Answer
     requires { ⌜ Countable (now s) start count ⌝ }
     ensures { λ r. ⌜ Answered (fitted (length (now (steps .entry))) (rungsIn (daysFrom true 1 (linesOf (drop start (now (s .entry))))))) r (now (steps .entry)) (now (steps .exit)) ⌝ }
 {
     if steps.len() < count {
-        return Found {
+        return Answer {
             number: refusal::NO_ROOM,
             place: count as u64,
             length: 0,
         };
     }
     fill(s, start, count, steps);
-    Found {
+    Answer {
         number: refusal::ACCEPTED,
         place: 0,
         length: count as u64,
@@ -98,7 +98,7 @@ fn show(s: &[u8], start: usize, count: usize, steps: &mut [u64]) -> Found
 
 // A list that has so many line feeds in all, and a run: the answer, and a step for each day in the first places of the run where the list is
 // accepted.
-pub fn ladder_in(s: &[u8], total: usize, steps: &mut [u64]) -> Found
+pub fn ladder_in(s: &[u8], total: usize, steps: &mut [u64]) -> Answer
     requires { ⌜ feeds (now s) ≤ total ⌝ }
     ensures { λ r. ⌜ Answered (ladderIn total (now (s .entry)) (length (now (steps .entry)))) r (now (steps .entry)) (now (steps .exit)) ⌝ }
 {
@@ -108,7 +108,7 @@ pub fn ladder_in(s: &[u8], total: usize, steps: &mut [u64]) -> Found
             start,
             count,
         } => show(s, start, count, steps),
-        Judged::Refused { number, place } => Found {
+        Judged::Refused { number, place } => Answer {
             number,
             place: place as u64,
             length: 0,
@@ -117,7 +117,7 @@ pub fn ladder_in(s: &[u8], total: usize, steps: &mut [u64]) -> Found
 }
 
 // A list and a run.
-pub fn ladder(s: &[u8], steps: &mut [u64]) -> Found
+pub fn ladder(s: &[u8], steps: &mut [u64]) -> Answer
     ensures { λ r. ⌜ Answered (ladder (now (s .entry)) (length (now (steps .entry)))) r (now (steps .entry)) (now (steps .exit)) ⌝ }
 {
     ladder_in(s, days::count_feeds(s), steps)

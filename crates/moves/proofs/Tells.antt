@@ -9,30 +9,30 @@ use lib.ListN.{length, take, drop, length-append}
 use Rattle.rules.specs.Text.{bytes}
 use Rattle.rules.specs.Report.{listingOf}
 use Rattle.rules.specs.Book.{Refused as BookRefused}
+use Rattle.answers.specs.declared.Answer.{Answer}
+use Rattle.answers.specs.Answered.{Answered}
 use Rattle.days.specs.declared.Metal.{Metal}
 use Rattle.days.specs.declared.Day.{Day}
 use Rattle.days.specs.Lines.{feeds}
 use Rattle.days.specs.Listed.{Verdict, Refused, Accepted, verdictOf}
 use Rattle.days.specs.Few.{accepted-few}
 use Rattle.reasons.specs.Reason.{noTag, said}
-use Rattle.watch.specs.declared.Found.{Found}
 use Rattle.watch.specs.Watch.{spans}
 use Rattle.watch.specs.Filling.{spans-length}
 use Rattle.watch.specs.Moves.{answerOf, movesIn, listed, listingBy}
-use Rattle.watch.specs.Answered.{Answered}
-use Rattle.watch.proofs.Answers.{fits-run, front-of}
 use Rattle.intake.specs.Told.{statusBy, saidBy}
+use Rattle.intake.specs.Telling.{fits-run, front-of}
 use Rattle.days.specs.Above.{refused-above}
 
 -- an accepted list, and a refused one
-pub record Took (v : Verdict) (r : Found) (exit : List ℕ) : Type 0 where
+pub record Took (v : Verdict) (r : Answer) (exit : List ℕ) : Type 0 where
   pub few : r .length ≤ 2_000
   pub inside : r .length ≤ length exit
   pub listing : listed (take (r .length) exit) ≡ listingBy v
   pub silent : [] ≡ saidBy (bytes "moves") v
   pub status : 0 ≡ statusBy v
 
-pub record Not (v : Verdict) (r : Found) : Type 0 where
+pub record Not (v : Verdict) (r : Answer) : Type 0 where
   pub listing : listingOf (BookRefused (r .number) (r .place)) ≡ listingBy v
   pub line : said (bytes "moves") (r .number) (r .place) noTag ≡ saidBy (bytes "moves") v
   pub status : 1 ≡ statusBy v
@@ -41,7 +41,7 @@ spans-size : (metal : Metal) (ds : List Day) → length (spans metal ds) ≡ len
 unfolding spans
 spans-size metal ds = spans-length metal [] ds
 
-module _ (total : ℕ) (s entry exit : List ℕ) (r : Found) (least : feeds s ≤ total) (room : 2_000 ≤ length entry) where
+module _ (total : ℕ) (s entry exit : List ℕ) (r : Answer) (least : feeds s ≤ total) (room : 2_000 ≤ length entry) where
   took-by : (v : Verdict) → verdictOf false total s ≡ v → Answered (answerOf (length entry) v) r entry exit → r .number ≡ 0 → Took v r exit
   took-by (Refused n place) e a z = absurd (omega (arith, a .number, refused-above false total s n place e))
   took-by (Accepted metal ds) e a z =

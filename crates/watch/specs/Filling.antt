@@ -24,7 +24,13 @@ abbrev pub spansIn : Metal → Days → List ℕ
 spansIn metal (All ds) = spans metal ds
 spansIn metal (Stop n place) = []
 
--- so many good days from a place on, and a run that has room for them
+-- so many good days from a place on
+pub record Countable (s : List ℕ) (start count : ℕ) : Type 0 where
+  pub days : List Day
+  pub read : daysFrom false 1 (linesOf (drop start s)) ≡ All days
+  pub size : length days ≡ count
+
+-- and a run that has room for them
 pub record Watchable (s : List ℕ) (start count : ℕ) (run : List ℕ) : Type 0 where
   pub days : List Day
   pub read : daysFrom false 1 (linesOf (drop start s)) ≡ All days

@@ -4,4 +4,3 @@ pub mod Watch
 pub mod Moves
 pub mod Window
 pub mod Filling
-pub mod Answered

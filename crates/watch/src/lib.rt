@@ -2,6 +2,7 @@
 mod span;
 mod table;
 
+use answers::Answer;
 use days::Judged;
 use days::Metal;
 use days::Next;
@@ -13,19 +14,12 @@ ghost use mathlib.Core.Path.{_≡_};
 ghost use mathlib.Core.Bool.{false};
 ghost use lib.ListN.{length, drop};
 ghost use Rattle.rules.specs.Answer.{fitted};
+ghost use Rattle.answers.specs.Answered.{Answered};
 ghost use Rattle.days.specs.Lines.{linesOf};
 ghost use Rattle.days.specs.Listed.{daysFrom};
 ghost use Rattle.writing.specs.Written.{written};
 ghost use Rattle.watch.specs.Moves.{movesIn, moves};
-ghost use Rattle.watch.specs.Filling.{spansIn, Watchable};
-ghost use Rattle.watch.specs.Answered.{Answered, Countable};
-
-// What a list comes to: a refusal's number and place; or 0, and how many days there are.
-pub struct Found {
-    pub number: u64,
-    pub place: u64,
-    pub length: u64,
-}
+ghost use Rattle.watch.specs.Filling.{spansIn, Countable, Watchable};
 
 // Fills the run, day after day. The last six days are kept, newest first.
 fn fill(s: &[u8], start: usize, count: usize, metal: Metal, spans: &mut [u8])
@@ -56,19 +50,19 @@ fn fill(s: &[u8], start: usize, count: usize, metal: Metal, spans: &mut [u8])
 }
 
 // 11, or the bytes of the days in the first places of the run.
-fn show(s: &[u8], start: usize, count: usize, metal: Metal, spans: &mut [u8]) -> Found
+fn show(s: &[u8], start: usize, count: usize, metal: Metal, spans: &mut [u8]) -> Answer
     requires { ⌜ Countable (now s) start count ⌝ }
     ensures { λ r. ⌜ Answered (fitted (length (now (spans .entry))) (spansIn metal (daysFrom false 1 (linesOf (drop start (now (s .entry))))))) r (now (spans .entry)) (now (spans .exit)) ⌝ }
 {
     if spans.len() < count {
-        return Found {
+        return Answer {
             number: refusal::NO_ROOM,
             place: count as u64,
             length: 0,
         };
     }
     fill(s, start, count, metal, spans);
-    Found {
+    Answer {
         number: refusal::ACCEPTED,
         place: 0,
         length: count as u64,
@@ -77,7 +71,7 @@ fn show(s: &[u8], start: usize, count: usize, metal: Metal, spans: &mut [u8]) ->
 
 // A list that has so many line feeds in all, and a run: the answer, and a byte for each day in the first places of the run where the list is
 // accepted.
-pub fn moves_in(s: &[u8], total: usize, spans: &mut [u8]) -> Found
+pub fn moves_in(s: &[u8], total: usize, spans: &mut [u8]) -> Answer
     ensures { λ r. ⌜ Answered (movesIn total (now (s .entry)) (length (now (spans .entry)))) r (now (spans .entry)) (now (spans .exit)) ⌝ }
 {
     match days::judge(s, total, false) {
@@ -86,7 +80,7 @@ pub fn moves_in(s: &[u8], total: usize, spans: &mut [u8]) -> Found
             start,
             count,
         } => show(s, start, count, metal, spans),
-        Judged::Refused { number, place } => Found {
+        Judged::Refused { number, place } => Answer {
             number,
             place: place as u64,
             length: 0,
@@ -95,7 +89,7 @@ pub fn moves_in(s: &[u8], total: usize, spans: &mut [u8]) -> Found
 }
 
 // A list and a run.
-pub fn moves(s: &[u8], spans: &mut [u8]) -> Found
+pub fn moves(s: &[u8], spans: &mut [u8]) -> Answer
     ensures { λ r. ⌜ Answered (moves (now (s .entry)) (length (now (spans .entry)))) r (now (spans .entry)) (now (spans .exit)) ⌝ }
 {
     moves_in(s, days::count_feeds(s), spans)
