@@ -102,12 +102,7 @@ pub extern "C" fn frundavel_ladder(list: &[u8], steps: &mut [u64]) -> Answer
 pub extern "C" fn frundavel_sheet_to_book(sheet: &[u8], book: &mut [u8]) -> Answer
     ensures { λ r. ⌜ Answered (toBook (now (sheet .entry)) (length (now (book .entry)))) r (now (book .entry)) (now (book .exit)) ⌝ }
 {
-    let found = sheets::sheet_to_book(sheet, book);
-    Answer {
-        number: found.number,
-        place: found.place,
-        length: found.length,
-    }
+    sheets::sheet_to_book(sheet, book)
 }
 
 // A book, a mark and a lent buffer: the answer, and the book as a sheet at the front of the buffer where it is accepted.
@@ -115,10 +110,5 @@ pub extern "C" fn frundavel_sheet_to_book(sheet: &[u8], book: &mut [u8]) -> Answ
 pub extern "C" fn frundavel_book_to_sheet(book: &[u8], mark: u8, sheet: &mut [u8]) -> Answer
     ensures { λ r. ⌜ Answered (toSheet (now (book .entry)) mark (length (now (sheet .entry)))) r (now (sheet .entry)) (now (sheet .exit)) ⌝ }
 {
-    let found = sheets::book_to_sheet(book, mark, sheet);
-    Answer {
-        number: found.number,
-        place: found.place,
-        length: found.length,
-    }
+    sheets::book_to_sheet(book, mark, sheet)
 }

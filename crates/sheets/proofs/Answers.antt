@@ -13,13 +13,13 @@ use Rattle.rules.specs.Fields.{fieldsOf}
 use Rattle.rules.specs.Answer.{Answer}
 use Rattle.rules.specs.Answer.{refused as refused01}
 use Rattle.laws.specs.Sane.{refused-above}
+use Rattle.answers.specs.Answered.{Answered}
 use Rattle.fields.specs.declared.Refusal.{Refusal}
 use Rattle.writing.specs.Written.{Wrote, written-front}
 use Rattle.sheets.specs.Refusal as refusal
 use Rattle.sheets.specs.Mark.{isMark}
 use Rattle.sheets.specs.Write.{sheetOf}
 use Rattle.sheets.specs.Answers.{left, ofVerdict, toSheet}
-use Rattle.sheets.specs.Answered.{Answered}
 use Rattle.sheets.specs.Shown.{sheetSize, sheet-length, refusalOf}
 
 -- an answer by its number and place, nothing written

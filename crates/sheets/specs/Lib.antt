@@ -5,7 +5,7 @@ pub mod Line
 pub mod Read
 pub mod Write
 pub mod Answers
-pub mod Answered
+pub mod Inside
 pub mod Shown
 pub mod Places
 pub mod Fronts

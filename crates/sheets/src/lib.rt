@@ -8,6 +8,7 @@ mod shown;
 mod sizing;
 mod spelling;
 
+use answers::Answer;
 use judging::judge;
 use reading::Made;
 use reading::make_book;
@@ -18,16 +19,9 @@ ghost use mathlib.Core.Bool.{not};
 ghost use Prim.Native.Nat.{_+_};
 ghost use lib.Dec.{ltb};
 ghost use lib.ListN.{length};
+ghost use Rattle.answers.specs.Answered.{Answered};
 ghost use Rattle.sheets.specs.Mark.{isMark};
 ghost use Rattle.sheets.specs.Answers.{toBook, toSheet};
-ghost use Rattle.sheets.specs.Answered.{Answered};
-
-// What a call comes to: a number and its place, and how many bytes stand at the front of the buffer.
-pub struct Found {
-    pub number: u64,
-    pub place: u64,
-    pub length: u64,
-}
 
 fn no_mark(mark: u8) -> bool
     ensures { λ r. ⌜ r ≡ not (isMark mark) ⌝ }
@@ -55,19 +49,19 @@ fn lacks_room(room: usize, size: usize) -> bool
 }
 
 // A sheet and a lent buffer: the answer, and the book that the sheet makes at the front of the buffer, accepted or refused.
-pub fn sheet_to_book(sheet: &[u8], book: &mut [u8]) -> Found
+pub fn sheet_to_book(sheet: &[u8], book: &mut [u8]) -> Answer
     ensures { λ r. ⌜ Answered (toBook (now (sheet .entry)) (length (now (book .entry)))) r (now (book .entry)) (now (book .exit)) ⌝ }
 {
     match make_book(sheet, book) {
         Made::Book(length) => {
             let judged = judge(&book[..length]);
-            Found {
+            Answer {
                 number: judged.number,
                 place: judged.place as u64,
                 length: length as u64,
             }
         }
-        Made::Refused { number, place } => Found {
+        Made::Refused { number, place } => Answer {
             number,
             place: place as u64,
             length: 0,
@@ -76,11 +70,11 @@ pub fn sheet_to_book(sheet: &[u8], book: &mut [u8]) -> Found
 }
 
 // A book, a mark and a lent buffer: the answer, and the book as a sheet at the front of the buffer where it is accepted.
-pub fn book_to_sheet(book: &[u8], mark: u8, sheet: &mut [u8]) -> Found
+pub fn book_to_sheet(book: &[u8], mark: u8, sheet: &mut [u8]) -> Answer
     ensures { λ r. ⌜ Answered (toSheet (now (book .entry)) mark (length (now (sheet .entry)))) r (now (sheet .entry)) (now (sheet .exit)) ⌝ }
 {
     if no_mark(mark) {
-        return Found {
+        return Answer {
             number: refusal::NO_MARK,
             place: 0,
             length: 0,
@@ -88,21 +82,21 @@ pub fn book_to_sheet(book: &[u8], mark: u8, sheet: &mut [u8]) -> Found
     }
     let judged = judge(book);
     if judged.number != rules::refusal::ACCEPTED {
-        return Found {
+        return Answer {
             number: judged.number,
             place: judged.place as u64,
             length: 0,
         };
     }
     if lacks_room(sheet.len(), sheet_size(book)) {
-        return Found {
+        return Answer {
             number: refusal::NO_RESULT,
             place: 0,
             length: 0,
         };
     }
     let length = put_sheet(sheet, book, mark);
-    Found {
+    Answer {
         number: rules::refusal::ACCEPTED,
         place: 0,
         length: length as u64,

@@ -8,8 +8,8 @@ use contract.Lifetimes.{Lfts}
 use denote.Triple.Entry.{Args, Res}
 use denote.Triple.Clauses.{Ended, Lasts, AtExit, atExit}
 use Rattle.rules.specs.Answer.{Answer as Answer01}
-use Rattle.sheets.specs.declared.Found.{Found}
-use Rattle.sheets.specs.Answered.{Answered}
+use Rattle.answers.specs.declared.Answer.{Answer}
+use Rattle.answers.specs.Answered.{Answered}
 use Rattle.sheets.proofs as sheets
 
 abbrev pub Contract : Ended → Type 1
@@ -24,11 +24,11 @@ Determined T Learnt =
 abbrev pub AsksNothing : (T : Ended) → ((κs : Lfts (T .signature .lifetimes)) → Args (T .signature) κs → Type 0) → Type 0
 AsksNothing T Asked = (κs : Lfts (T .signature .lifetimes)) (a : Args (T .signature) κs) → Asked κs a
 
-found : (r q : Found) → r .number ≡ q .number → r .place ≡ q .place → r .length ≡ q .length → r ≡ q
-found r q n p l i = record { number = n i; place = p i; length = l i }
+same : (r q : Answer) → r .number ≡ q .number → r .place ≡ q .place → r .length ≡ q .length → r ≡ q
+same r q n p l i = record { number = n i; place = p i; length = l i }
 
-answered : {a : Answer01} {r q : Found} {entry x y : List ℕ} → Answered a r entry x → Answered a q entry y → (r ≡ q) × (x ≡ y)
-answered {a} {r} {q} e f = (found r q (e .number ∙ sym (f .number)) (e .place ∙ sym (f .place)) (e .length ∙ sym (f .length)), e .buffer ∙ sym (f .buffer))
+answered : {a : Answer01} {r q : Answer} {entry x y : List ℕ} → Answered a r entry x → Answered a q entry y → (r ≡ q) × (x ≡ y)
+answered {a} {r} {q} e f = (same r q (e .number ∙ sym (f .number)) (e .place ∙ sym (f .place)) (e .length ∙ sym (f .length)), e .buffer ∙ sym (f .buffer))
 
 pub sheet-to-book : Determined sheets.sheet_to_book.ended sheets.sheet_to_book.Reads.Learnt
 sheet-to-book κs a r q s t e f = (answered e f .0, ap (λ (l : List ℕ). (tt, (l, tt))) (answered e f .1))

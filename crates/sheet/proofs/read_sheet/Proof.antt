@@ -5,7 +5,7 @@ use mathlib.Core.Path.{ap, _∙_}
 use mathlib.Core.Logic.{⊎-elim}
 use native.Mathlib.Omega.{arith}
 use lib.ListN.{length-take}
-use Rattle.sheets.specs.Answered.{book-fits}
+use Rattle.sheets.specs.Inside.{book-fits}
 use Rattle.sheet.specs.Told.{statusOf, unwritten, told}
 use borrow.Author.Needs.{needs}
 use Rattle.sheet.proofs.read_sheet.Statement.{statement}

@@ -5,7 +5,7 @@ use mathlib.Core.Path.{ap, _∙_}
 use mathlib.Core.Logic.{⊎-elim}
 use native.Mathlib.Omega.{arith}
 use lib.ListN.{length-take}
-use Rattle.sheets.specs.Answered.{sheet-fits}
+use Rattle.sheets.specs.Inside.{sheet-fits}
 use Rattle.sheet.specs.Told.{statusOf, unwritten, told}
 use borrow.Author.Needs.{needs}
 use Rattle.sheet.proofs.write_sheet.Statement.{statement}

@@ -1,29 +1,18 @@
--- What a call returns and leaves in the lent buffer.
+-- What is left is never more than the lent buffer holds.
 -- Assumes nothing.
 use Prim.Native.Nat.{ℕ, _≤_}
-use mathlib.Core.Path.{_≡_}
 use mathlib.Core.List.{List}
 use native.Mathlib.Omega.{arith}
 use borrow.Author.Tests.{ltb-false}
 use lib.Dec.{ltb}
 use lib.ListN.{length}
 use Rattle.rules.specs.Book.{Verdict, Refused, Accepted, judge}
-use Rattle.rules.specs.Answer.{Answer, lent}
 use Rattle.laws.specs.ByTest.{by-test}
 use Rattle.sheets.specs.Mark.{isMark}
 use Rattle.sheets.specs.Read.{Read, Bad, Made, read}
 use Rattle.sheets.specs.Write.{sheetOf}
 use Rattle.sheets.specs.Answers.{left, inRoom, leftBook, ofRead, toBook, ofVerdict, toSheet}
-use Rattle.sheets.specs.declared.Found.{Found}
 
--- the three numbers are the answer's, and so is every byte of the buffer
-pub record Answered (a : Answer) (r : Found) (entry exit : List ℕ) : Type 0 where
-  pub number : r .number ≡ a .number
-  pub place : r .place ≡ a .place
-  pub length : r .length ≡ a .length
-  pub buffer : exit ≡ lent a entry
-
--- what is left is never more than the buffer holds
 room-fits : (room n place : ℕ) (s : List ℕ) → inRoom room s (left s n place) .length ≤ room
 room-fits room n place s = by-test (ltb room (length s)) (λ e. simp e (omega arith)) (λ e. simp e (ltb-false room (length s) e))
 
