@@ -13,7 +13,7 @@
 
 PREFIX = /usr/local
 DESTDIR =
-VERSION = 0.11.0
+VERSION = 0.11.1
 RT = rt
 RUN = .ci/x86-64
 INSTALL = install

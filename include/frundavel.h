@@ -22,7 +22,7 @@ extern "C" {
 #endif
 
 /* The version. CHANGELOG.md of the source tree says what changed with each. */
-#define FRUNDAVEL_VERSION "0.11.0"
+#define FRUNDAVEL_VERSION "0.11.1"
 #define FRUNDAVEL_VERSION_MAJOR 0
 #define FRUNDAVEL_VERSION_MINOR 11
 #define FRUNDAVEL_VERSION_PATCH 0

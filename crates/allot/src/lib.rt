@@ -68,7 +68,7 @@ pub extern "C" fn frundavel_main() -> i32
     match shell::begin(
         b"allot",
         b"Usage: allot [FILE]\nPrints the forced offsetting allotment of the book in FILE, or on standard\ninput where there is no FILE or it is -.\n\n  --help     print this and end\n  --version  print the version and end\n\nThe status is 0 where the book is accepted, 1 where it is refused, and 2\nwhere the words are wrong or a read or a write fails.\n",
-        b"allot 0.11.0\n",
+        b"allot 0.11.1\n",
         &mut buffer,
     ) {
         Input::Bytes(n) => answer(&buffer[..n]) as i32,

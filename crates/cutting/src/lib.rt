@@ -230,7 +230,7 @@ pub extern "C" fn frundavel_main() -> i32
     match shell::begin(
         b"cutback",
         b"Usage: cutback [FILE]\nPrints the lots cut at each seat of a customer over the position limit, from\nthe lines in FILE, or on standard input where there is no FILE or it is -:\nthe type (corporate or individual), the metal (gold or silver), the grams in\none lot, and for each seat its code, a blank and its lots.\n\n  --help     print this and end\n  --version  print the version and end\n\nThe status is 0 where the lines are accepted, 1 where they are refused, and 2\nwhere the words are wrong or a read or a write fails.\n",
-        b"cutback 0.11.0\n",
+        b"cutback 0.11.1\n",
         &mut buffer,
     ) {
         Input::Bytes(n) => answer(&buffer[..n]) as i32,

@@ -83,7 +83,7 @@ pub extern "C" fn frundavel_main() -> i32
     match intake::begin(
         b"ladder",
         b"Usage: ladder [FILE]\nPrints the lock ladder of Articles 17 and 18, day by day, of the list in FILE, or\non standard input where there is no FILE or it is -.\n\n  --help     print this and end\n  --version  print the version and end\n\nThe status is 0 where the list is accepted, 1 where it is refused, and 2\nwhere the words are wrong or a read or a write fails.\n",
-        b"ladder 0.11.0\n",
+        b"ladder 0.11.1\n",
         &mut buffer,
     ) {
         Long::Bytes { front, total } => answer(&buffer[..front], total) as i32,

@@ -83,7 +83,7 @@ pub extern "C" fn frundavel_main() -> i32
     match intake::begin(
         b"moves",
         b"Usage: moves [FILE]\nPrints the days on which Article 12 or 13 is met, of the list in FILE, or on\nstandard input where there is no FILE or it is -.\n\n  --help     print this and end\n  --version  print the version and end\n\nThe status is 0 where the list is accepted, 1 where it is refused, and 2\nwhere the words are wrong or a read or a write fails.\n",
-        b"moves 0.11.0\n",
+        b"moves 0.11.1\n",
         &mut buffer,
     ) {
         Long::Bytes { front, total } => answer(&buffer[..front], total) as i32,

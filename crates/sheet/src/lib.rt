@@ -106,7 +106,7 @@ fn begin(first: usize, buffer: &mut [u8]) -> Input
         first,
         b"sheet",
         b"Usage: sheet read [FILE]\n       sheet write comma [FILE]\n       sheet write point [FILE]\nWrites the book of the sheet in FILE, or the sheet of the book in FILE in the\nmark that is named. Standard input is read where there is no FILE or it is -.\n\n  --help     print this and end\n  --version  print the version and end\n\nThe status is 0 where the book is accepted, 1 where the sheet or the book is\nrefused, and 2 where the words are wrong or a read or a write fails.\n",
-        b"sheet 0.11.0\n",
+        b"sheet 0.11.1\n",
         buffer,
     )
 }
