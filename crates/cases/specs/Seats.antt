@@ -1,6 +1,6 @@
 -- Request [5]: customers with several seats. Which fields may stand where, the sums, and the lots of each seat. S 400.00, gold edges, locked down.
 -- Assumes nothing.
-use Prim.Native.Nat.{ℕ, _-_}
+use Prim.Native.Nat.{ℕ}
 use Prim.Native.String.{String}
 use mathlib.Core.List.{List, [], _∷_, _++_}
 use lib.ListN.{length, take}

@@ -1,15 +1,15 @@
 -- What a customer's seats come to in a group: the same refusal; or its trades are read next, with seats whose positions add up to what was read,
 -- and which are those that stand in the book for who reads them again.
 -- Assumes nothing.
-use Prim.Native.Nat.{ℕ, zero, suc, _+_, _-_, _≤_, _<_}
+use Prim.Native.Nat.{ℕ, zero, suc, _+_, _<_}
 use Prim.Native.Char.{code}
-use mathlib.Core.Path.{_≡_, refl, sym, ap, ap₂, subst, _∙_}
+use mathlib.Core.Path.{_≡_, refl, sym, ap, subst, _∙_}
 use mathlib.Core.Logic.{⊎-elim}
 use mathlib.Core.List.{List, [], _∷_, _++_, map, map-append, append-nil, append-assoc, List·Memᴰ, List·Memᴰ·append-cases, List·Memᴰ·eq-of-singleton, List·Memᴰ·not-nil}
-use mathlib.Core.Bool.{Bool, true, false, cond, not, _&&_, _||_}
+use mathlib.Core.Bool.{Bool, true, false, cond, _&&_, _||_}
 use native.Mathlib.Omega.{arith}
 use lib.ListN.{length, drop, length-append}
-use lib.Dec.{eqb, ltb}
+use lib.Dec.{ltb}
 use borrow.Author.Tests.{eqb-true, lt-ltb, le-ltb}
 use Rattle.rules.specs.declared.Terms.{Terms}
 use Rattle.rules.specs.declared.Position.{Position}
@@ -18,32 +18,29 @@ use Rattle.rules.specs.Limits.{mostSeats}
 use Rattle.rules.specs.Text.{is}
 use Rattle.rules.specs.Codes.{isCode}
 use Rattle.rules.specs.Fields.{Field, Whole, Cut, fieldsOf}
-use Rattle.rules.specs.Division.{sumOf}
 use Rattle.rules.specs.Seats.{seatCode}
-use Rattle.rules.specs.Book.{Seat, added, Customer, seated, Part, DueI, DueK, DueSeat, DueTrade, Group, Open, seatAt, joinedBy, sits, trades, within, mayEnd}
+use Rattle.rules.specs.Book.{Seat, added, Customer, seated, Part, DueI, DueSeat, DueTrade, Group, Open, joinedBy, sits, trades, within}
 use Rattle.laws.specs.ByTest.{by-test}
 use Rattle.laws.specs.Sums.{sum-snoc}
 use Rattle.laws.specs.Keys.{keyOf}
 use Rattle.laws.specs.Fields.{fields-next}
-use Rattle.laws.specs.Groups.{Read, Bad, groupFrom, closing, onward}
+use Rattle.laws.specs.Groups.{Read, Bad, groupFrom, onward}
 use Rattle.laws.specs.SeatFields.{seatsIn}
 use Rattle.codes.specs.declared.Code.{Code}
 use Rattle.codes.specs.declared.Code.the-variants.{Key, Malformed}
 use Rattle.codes.specs.Codes.{codeOf, givenIn}
 use Rattle.codes.proofs.Laws.{key-read, none-read, taken-keys}
-use Rattle.fields.specs.declared.Refusal.{Refusal}
 use Rattle.fields.specs.Reading.{refusedAt}
 use Rattle.positions.specs.declared.PositionAt.{PositionAt}
 use Rattle.positions.specs.declared.PositionAt.the-variants.{Read as ReadPosition}
 use Rattle.positions.specs.declared.PositionAt.the-variants.{Refused as NoPosition}
-use Rattle.positions.specs.declared.KeyAt.{KeyAt}
 use Rattle.positions.specs.declared.KeyAt.the-variants.{New as NewKey}
 use Rattle.positions.specs.declared.KeyAt.the-variants.{Refused as NoKey}
 use Rattle.positions.specs.declared.SeatAt.{SeatAt}
 use Rattle.positions.specs.declared.SeatAt.the-variants.{Read as ReadSeat}
 use Rattle.positions.specs.declared.SeatAt.the-variants.{Refused as NoSeat}
 use Rattle.positions.specs.Position.{positionOf}
-use Rattle.positions.specs.Seats.{newKey, keyFrom, beginsSeat, plus, noLots, withKey, thenHeld, seatOf, thenSeat, seatsFrom, seatsOf}
+use Rattle.positions.specs.Seats.{newKey, keyFrom, beginsSeat, plus, withKey, thenHeld, seatOf, thenSeat, seatsFrom, seatsOf}
 use Rattle.positions.proofs.Positions.{bad, thenRead, position-means}
 use Rattle.positions.proofs.SeatFields.{none-begins, seat-again}
 

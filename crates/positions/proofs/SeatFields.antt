@@ -16,7 +16,6 @@ use Rattle.rules.specs.declared.Figure.the-variants.{Value as Number}
 use Rattle.rules.specs.declared.Terms.{Terms}
 use Rattle.rules.specs.declared.Position.{Position}
 use Rattle.rules.specs.Refusal as refusal
-use Rattle.rules.specs.Text.{is}
 use Rattle.rules.specs.Figures.{heldForm, lots, figureOf}
 use Rattle.rules.specs.Fields.{Field, Whole, Cut, fieldsOf}
 use Rattle.rules.specs.Book.{Seat, overdrawn}

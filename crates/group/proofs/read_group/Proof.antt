@@ -1,6 +1,6 @@
 -- `group::read_group` meets its contract: the seats, and then the trades.
 -- Assumes nothing.
-use mathlib.Core.Path.{_≡_, refl, sym, ap, subst, _∙_}
+use mathlib.Core.Path.{refl, sym, ap, subst, _∙_}
 use mathlib.Core.List.{[]}
 use Rattle.rules.specs.Book.{DueI}
 use Rattle.rules.specs.Limits.{mostSeats}
