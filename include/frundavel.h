@@ -25,7 +25,7 @@ extern "C" {
 #define FRUNDAVEL_VERSION "0.11.1"
 #define FRUNDAVEL_VERSION_MAJOR 0
 #define FRUNDAVEL_VERSION_MINOR 11
-#define FRUNDAVEL_VERSION_PATCH 0
+#define FRUNDAVEL_VERSION_PATCH 1
 
 /* A book has at most so many bytes; a longer one is refused with number 1. Reading one byte more than this is enough to see it. */
 #define FRUNDAVEL_LONGEST_BOOK 60000
