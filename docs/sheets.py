@@ -51,7 +51,7 @@ def main(sheet, allot):
             for line, wanted in typed(block):
                 run = subprocess.run(["sh", "-c", line], cwd=folder, env={**os.environ, "PATH": path}, stdout=subprocess.PIPE, stderr=subprocess.STDOUT)
                 got = run.stdout.decode()
-                right = apart(got) == apart(wanted)
+                right = apart(got) == apart(wanted) if "|" in line else got == wanted
                 passed, failed = passed + right, failed + (not right)
                 if not right:
                     print(f"FAILED: $ {line}\nwanted {wanted!r}\ngot    {got!r}")
