@@ -1,5 +1,7 @@
 // The program: a book from a file or from standard input; its listing to standard output, the words of a refusal to standard error, and
 // a status.
+#![tactic(auto)]
+
 ghost use Rattle.std.specs.Prelude.{◌≡◌, length, ◌≤◌};
 ghost use Rattle.rules.specs.Book.{judge};
 ghost use Rattle.rules.specs.Report.{listing};
@@ -16,7 +18,7 @@ const MOST_READ: usize = rules::LONGEST_BOOK + 1;
 const SAID_ROOM: usize = 256;
 
 // What a book comes to: a status, and how many bytes of the listing and of the line stand at the front of their buffers.
-#[derive(Drop)]
+#[derive(Clone, Copy)]
 pub struct Told {
     pub status: u32,
     pub listed: usize,

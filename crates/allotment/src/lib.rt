@@ -1,4 +1,6 @@
 // The call: a book and a lent buffer in; a number, a place and a length out.
+#![tactic(auto)]
+
 ghost use Rattle.std.specs.Prelude.{◌≡◌, ◌-◌, ◌≤◌, length};
 ghost use Rattle.rules.specs.Book.{judge};
 ghost use Rattle.rules.specs.Answer.{fitted, answer};
@@ -161,7 +163,7 @@ pub fn allot(book: &[u8], report: &mut [u8]) -> Answer
 }
 
 // What a listing says: the book's number and place, and how many bytes of the buffer it takes.
-#[derive(Drop)]
+#[derive(Clone, Copy)]
 pub struct Listing {
     pub number: u64,
     pub place: u64,

@@ -1,4 +1,6 @@
 // The cascade: a state by value, with a method for one tier that hands the state back. The customers' columns are lent.
+#![tactic(auto)]
+
 pub mod rows;
 
 ghost use Rattle.std.specs.Prelude.{◌≡◌, length, ◌≤◌, ◌<◌};

@@ -12,7 +12,7 @@ use crate::Cascade;
 use rules::{MOST_CUSTOMERS, lesser};
 
 // A customer: its key, its standing's byte, its stake, and what it has offset so far.
-#[derive(Drop)]
+#[derive(Clone, Copy)]
 pub struct Row {
     pub key: u64,
     pub standing: u8,

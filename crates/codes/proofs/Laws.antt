@@ -2,7 +2,7 @@
 -- document 01 has codes given, since equal keys are equal codes.
 -- Assumes nothing.
 use Prim.Native.Nat.{ℕ, ◌+◌, ◌<◌}
-use mathlib.Core.Bool.{Bool, true, false, cond, ◌||◌, or_false, or_assoc}
+use mathlib.Core.Bool.{Bool, true, false, cond, ◌||◌, or-false, or_assoc}
 use mathlib.Core.Path.{◌≡◌, refl, sym, ap, ap₂, ◌∙◌}
 use mathlib.Core.List.{List, [], ◌∷◌, ◌++◌, map, Memᴰ}
 use native.Mathlib.Numerals.{add-one}
@@ -33,7 +33,7 @@ none_read v h = go (is_code v) refl h
     go false e h = e
 
 pub given_snoc : (l : List ℕ) (k key : ℕ) → given_in (l ++ k ∷ []) key ≡ (given_in l key || eqb k key)
-given_snoc [] k key = or_false (eqb k key)
+given_snoc [] k key = or-false (eqb k key)
 given_snoc (x ∷ xs) k key =
     ap (λ b. eqb x key || b) (given_snoc xs k key) ∙ sym (or_assoc (eqb x key) (given_in xs key) (eqb k key))
 

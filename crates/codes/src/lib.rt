@@ -1,9 +1,11 @@
 // Customer codes as numbers: equal where the codes are the same, and in the order of their bytes.
+#![tactic(auto)]
+
 ghost use Rattle.std.specs.Prelude.{◌≡◌, cond, ◌-◌, ◌^◌, ◌≤◌, length, take};
 ghost use Rattle.laws.specs.Keys.{digit_of};
 ghost use Rattle.codes.specs.Codes.{code_of, given_in, mark_of, Marked};
 
-#[derive(Drop)]
+#[derive(Clone, Copy)]
 pub enum Code {
     Key(u64),
     Malformed,

@@ -1,4 +1,6 @@
 // The call for a viewer that reads column by column: a book and four lent runs in; a number, a place and a length out.
+#![tactic(auto)]
+
 ghost use Rattle.std.specs.Prelude.{◌≡◌, min};
 ghost use Rattle.rules.specs.Answer.{fitted};
 ghost use Rattle.cascade.specs.Columns.{offered_as, pending_as};

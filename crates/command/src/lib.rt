@@ -1,10 +1,12 @@
 // The words of the command line, and what they ask for together.
+#![tactic(auto)]
+
 ghost use Rattle.std.specs.Prelude.{◌≡◌};
 ghost use Rattle.rules.specs.Codes.{same};
 ghost use Rattle.command.specs.Asked.{begins_option, word_of, meant_of, operand_of, step_of, settled_of};
 
 // A word by itself.
-#[derive(Drop)]
+#[derive(Clone, Copy)]
 pub enum Word {
     Help,
     Version,
@@ -15,7 +17,7 @@ pub enum Word {
 }
 
 // What the words so far ask for; a number is the place of a word.
-#[derive(Drop)]
+#[derive(Clone, Copy)]
 pub enum Asked {
     Nothing,
     Input,
@@ -27,7 +29,7 @@ pub enum Asked {
 }
 
 // The words so far, and whether "--" was among them.
-#[derive(Drop)]
+#[derive(Clone, Copy)]
 pub struct Seen {
     pub asked: Asked,
     pub ended: bool,

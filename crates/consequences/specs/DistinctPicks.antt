@@ -28,10 +28,12 @@ same_swap (x ∷ a) (y ∷ b) = ap₂ ◌&&◌ (eqb_swap x y) (same_swap a b)
 among_other : (i j : ℕ) (is : List ℕ) → among i is ≡ false → Memᴰ j is → i ≡ j → ⊥
 among_other i j (k ∷ is) h (Memᴰ.head e) z = eqb-false i k (not_either (eqb i k) (among i is) h).0 (z ∙ e)
 among_other i j (k ∷ is) h (Memᴰ.tail m) z = among_other i j is (not_either (eqb i k) (among i is) h).1 m z
+among_other i j [] h x3 z = elim x3 [ ]
 
 below_mem : (n j : ℕ) (is : List ℕ) → Below n is → Memᴰ j is → j < n
 below_mem n j (i ∷ is) b (Memᴰ.head e) = rw e b.0
 below_mem n j (i ∷ is) b (Memᴰ.tail m) = below_mem n j is b.1 m
+below_mem n j [] b x'' = elim x'' [ ]
 
 module _ {A : Type 0} (code : A → List ℕ) (d : A) where
   distinct_two : (l : List A) → Distinct code l → (i j : ℕ) → i < length l → j < length l → (i ≡ j → ⊥) → same (code (get_or l i d)) (code (get_or l j d)) ≡ false

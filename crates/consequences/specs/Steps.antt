@@ -4,7 +4,7 @@
 use Rattle.std.specs.Prelude.{ℕ, ◌<◌, ◌≡◌, refl, List, [], ◌∷◌, ◌++◌, Bool, true, false, not, length, leb, ltb, eqb}
 use Prim.Native.Char.{code}
 use Rattle.std.proofs.Common.{sym, ap, subst, ◌∙◌, ltb-false, eqb-true, arith}
-use Rattle.std.proofs.lemmas.Bool.{lt-leb, not_false}
+use Rattle.std.proofs.lemmas.Bool.{lt-leb, not-false}
 use Rattle.rules.specs.declared.Terms.{Terms}
 use Rattle.rules.specs.declared.Trade.{Trade}
 use Rattle.rules.specs.declared.Opening.{Opening}
@@ -68,7 +68,7 @@ refuse_next n false r a e = (refl, e)
 pub trade_next : {A : Type 0} (x : ℕ) (o : Opening) (next : Trade → Step A) (a : A) → trade x o next ≡ Next a → (t : Trade) × (o ≡ Made t x) × (next t ≡ Next a)
 trade_next x (Made t d) next a e =
     let r = refuse_next refusal.malformed (not (eqb d x)) (next t) a e in
-    (t, ap (Made t) (eqb-true d x (not_false (eqb d x) r.0)), r.1)
+    (t, ap (Made t) (eqb-true d x (not-false (eqb d x) r.0)), r.1)
 trade_next x CommaIn next a e = stop_not e
 trade_next x NoTrade next a e = stop_not e
 
@@ -114,7 +114,7 @@ opens_next terms v cs st e =
     let a = refuse_next refusal.too_many (leb most_customers (length cs)) _ st e in
     let b = refuse_next refusal.malformed (not (is_code v)) _ st a.1 in
     let c : Next (Reading (InGroup terms cs (after_c v))) ≡ Next st = (refuse_next refusal.given_before (given v cs) _ st b.1).1 in
-    (not_false (is_code v) b.0, cc)
+    (not-false (is_code v) b.0, cc)
 
 pub next_opens : (terms : Terms) (v : List ℕ) (cs : List Customer) → length cs < most_customers → is_code v ≡ true → given v cs ≡ false → opens terms v cs ≡ Next (Reading (InGroup terms cs (after_c v)))
 next_opens terms v cs h k l = rw (lt-leb most_customers (length cs) h, k, l)

@@ -1,1 +1,2 @@
 // Theorems about whole books and outcomes, in specs/; no code.
+#![tactic(auto)]

@@ -1,4 +1,6 @@
 // The lots that are cut at each seat of a customer over the position limit: Articles 34 and 52 (2) 3, as request [13] has them.
+#![tactic(auto)]
+
 ghost use Rattle.std.specs.Prelude.{◌≡◌, map, length};
 ghost use Rattle.rules.specs.Answer.{fitted};
 ghost use Rattle.laws.specs.Sums.{up_to};

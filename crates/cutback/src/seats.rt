@@ -8,7 +8,7 @@ use rules::lesser;
 const MOST_LOTS: u64 = 1_000_000;
 
 // Whether a seat has too many lots; and the sum of all where none has.
-#[derive(Drop)]
+#[derive(Clone, Copy)]
 pub struct Total {
     pub bad: bool,
     pub sum: u64,

@@ -9,7 +9,7 @@ ghost use Rattle.cutback.specs.Walk.{IsInside, more_in, part, Stood, kept, Count
 use codes::Code;
 
 // Where the code ends that begins where it is looked for, and the places behind it: in the text, and in the sizes.
-#[derive(Drop)]
+#[derive(Clone, Copy)]
 pub struct Spot {
     pub end: usize,
     pub next: usize,
@@ -17,7 +17,7 @@ pub struct Spot {
 }
 
 // Whether a code is malformed or twice, and how many there are.
-#[derive(Drop)]
+#[derive(Clone, Copy)]
 pub struct Read {
     pub bad: bool,
     pub count: usize,

@@ -1,1 +1,2 @@
 // The promises of request [13] are theorems, in specs/. No code.
+#![tactic(auto)]

@@ -1,5 +1,7 @@
 // The program: the type, the metal, the grams and the seats from a file or from standard input; the lots cut at each seat to standard output,
 // the words of a refusal to standard error, and a status.
+#![tactic(auto)]
+
 ghost use Rattle.std.specs.Prelude.{◌≡◌, map, ◌+◌, ◌≤◌, min, length, take};
 ghost use Rattle.rules.specs.Opening.{up_to_blank};
 ghost use Rattle.writing.specs.Written.{Room, Wrote};
@@ -34,7 +36,7 @@ const GRAMS: Form = Form {
 const NO_LOTS: u64 = 1_000_001;
 
 // What an input comes to: a status, and how many bytes of the listing and of the line stand at the front of their buffers.
-#[derive(Drop)]
+#[derive(Clone, Copy)]
 pub struct Told {
     pub status: u32,
     pub listed: usize,

@@ -1,5 +1,7 @@
 // A list of days, read line by line: its metal, and the days, in the short form of request [11] or in the longer one of request [12]. One
 // reader serves both.
+#![tactic(auto)]
+
 mod line;
 mod part;
 pub mod refusal;
@@ -14,14 +16,14 @@ use line::read_day;
 use part::{first_at, is};
 use rules::{Fen, Lots, Rate};
 
-#[derive(Drop)]
+#[derive(Clone, Copy)]
 pub enum Metal {
     Gold,
     Silver,
 }
 
 // How a day ended: not locked, locked up, locked down.
-#[derive(Drop)]
+#[derive(Clone, Copy)]
 pub enum Mark {
     Unlocked,
     Up,
@@ -29,14 +31,14 @@ pub enum Mark {
 }
 
 // A day's price limit.
-#[derive(Drop)]
+#[derive(Clone, Copy)]
 pub enum Limit {
     Missing,
     Known(Rate),
 }
 
 // A day: settlement price and open interest; in the short form it is not locked, and no limit is known.
-#[derive(Drop)]
+#[derive(Clone, Copy)]
 pub struct Day {
     pub price: Fen,
     pub interest: Lots,
@@ -45,14 +47,14 @@ pub struct Day {
 }
 
 // What a line comes to: a day, or the number of its refusal.
-#[derive(Drop)]
+#[derive(Clone, Copy)]
 pub enum Reading {
     Good(Day),
     Bad(u64),
 }
 
 // What stands at a place where a day may begin: a day, and where the next may begin; the number of its refusal; or the end of the list.
-#[derive(Drop)]
+#[derive(Clone, Copy)]
 pub enum Next {
     Found { day: Day, next: usize },
     Refused(u64),
@@ -60,21 +62,21 @@ pub enum Next {
 }
 
 // The metal of a list, and where its first day begins.
-#[derive(Drop)]
+#[derive(Clone, Copy)]
 pub enum Head {
     Of { metal: Metal, start: usize },
     Other,
 }
 
 // The days from a place on: how many there are, or the first refusal.
-#[derive(Drop)]
+#[derive(Clone, Copy)]
 pub enum Counted {
     Days(usize),
     Refused { number: u64, place: usize },
 }
 
 // What a list comes to: its metal, where its first day begins and how many days it has; or its refusal.
-#[derive(Drop)]
+#[derive(Clone, Copy)]
 pub enum Judged {
     Accepted {
         metal: Metal,

@@ -1,1 +1,2 @@
 // Cases of lists of days, computed, in specs/; no code.
+#![tactic(auto)]

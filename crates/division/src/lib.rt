@@ -1,5 +1,7 @@
 // X lots over weights by largest remainders; equal remainders go to the smaller key. One array: the weights stand in it before, the
 // lots after, and in between each member's part.
+#![tactic(auto)]
+
 ghost use Rattle.std.specs.Prelude.{◌≡◌, ℕ, ◌+◌, ◌*◌, ◌/◌, ◌%◌, ◌-◌, ◌≤◌, ◌<◌, max, length};
 ghost use Rattle.rules.specs.Division.{one_if};
 ghost use Rattle.division.specs.Shares.{at, divided, Lent};
@@ -11,13 +13,13 @@ use rules::lesser;
 const BASE: u64 = 4_294_967_296;
 
 // The last to get one of the lots left over: what it lacks, and its key.
-#[derive(Drop)]
+#[derive(Clone, Copy)]
 struct Last {
     lack: u64,
     key: u64,
 }
 
-#[derive(Drop)]
+#[derive(Clone, Copy)]
 struct Span {
     least: u64,
     most: u64,

@@ -1,4 +1,6 @@
 // The fields of a report, written into a lent buffer; and how many bytes they take.
+#![tactic(auto)]
+
 ghost use Rattle.std.specs.Prelude.{◌≡◌, [], ◌∷◌, ◌+◌, ◌≤◌, ◌<◌, length};
 ghost use Rattle.rules.specs.Report.{digits, letter, field};
 ghost use Rattle.writing.specs.Written.{Room, Wrote};

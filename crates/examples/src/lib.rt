@@ -1,1 +1,2 @@
 // The promises on small books, computed, in specs/; no code.
+#![tactic(auto)]

@@ -1,4 +1,6 @@
 // A field of the book at a place, and the figure of the field that is due there.
+#![tactic(auto)]
+
 ghost use Rattle.std.specs.Prelude.{◌≡◌, drop};
 ghost use Rattle.rules.specs.Figures.{held_form};
 ghost use Rattle.rules.specs.Fields.{fields_of};
@@ -8,21 +10,21 @@ ghost use Rattle.fields.specs.Reading.{refusal_in, due_in, figure_at, figure_fro
 use rules::{Figure, Form, refusal};
 
 // What begins at a place: a whole field, whose value is the book's bytes from start to end, or less than one.
-#[derive(Drop)]
+#[derive(Clone, Copy)]
 pub enum Found {
     Short,
     Field { tag: u8, start: usize, end: usize },
 }
 
 // A refusal: its number and its place.
-#[derive(Drop)]
+#[derive(Clone, Copy)]
 pub struct Refusal {
     pub number: u64,
     pub place: usize,
 }
 
 // The figure of the field that is due, and the place after it.
-#[derive(Drop)]
+#[derive(Clone, Copy)]
 pub enum FigureAt {
     Value { number: u64, next: usize },
     Refused(Refusal),
@@ -63,7 +65,7 @@ pub fn refusal_in(f: FigureAt) -> Refusal
 }
 
 // Where the value of the field that is due stands, or what is wrong.
-#[derive(Drop)]
+#[derive(Clone, Copy)]
 enum DueAt {
     There { start: usize, end: usize },
     Refused(Refusal),

@@ -33,7 +33,7 @@ pub run_number_append : (n : ℕ) (ds v : List ℕ) → all_digits_of ds ≡ tru
 run_number_append n [] v h = refl
 run_number_append n (x ∷ ds) v h =
     let p = (and-eq-true_iff (is_digit x) (all_digits_of ds)).0 h in
-    simp p.0 (run_number_append _ ds v p.1)
+    simp p.0 (run_number_append (number_after n (x ∷ [])) ds v p.1)
 
 -- no digit follows: the number stays
 pub run_none : (n : ℕ) (v : List ℕ) → run v ≡ 0 → run_number n v ≡ n

@@ -2,7 +2,7 @@
 -- Assumes nothing.
 use Rattle.std.proofs.Common.{◌≡◌, ℕ, ◌+◌, Bool, true, false, cond, ◌&&◌, eqb, List, ◌∷◌, ◌++◌, length, get_or, take, drop, refl, ap, ◌∙◌, arith, take_at, eq-eqb, ne_eqb, eqb-true}
 use Prim.Native.Char.{code}
-use mathlib.Core.Bool.{and_false, and-eq-true_iff}
+use mathlib.Core.Bool.{and-false, and-eq-true_iff}
 use lib.Seq.{get_or_at, drop-append-add}
 use Rattle.rules.specs.declared.Figure.{Figure}
 use Rattle.rules.specs.declared.Figure.TheVariants.{Value, Malformed}
@@ -40,7 +40,7 @@ pub no_first : (v : List ℕ) → (get_or v 0 0 ≡ code " " → ⊥) → stamp_
 no_first v h = simp (ne_eqb (get_or v 0 0) (code " ") h)
 
 pub no_second : (v : List ℕ) → (get_or v 9 0 ≡ code " " → ⊥) → stamp_in v ≡ Other
-no_second v h = simp (ne_eqb (get_or v 9 0) (code " ") h, and_false)
+no_second v h = simp (ne_eqb (get_or v 9 0) (code " ") h, and-false)
 
 pub first_blank : (v : List ℕ) (n : ℕ) → stamp_in v ≡ Number n → get_or v 0 0 ≡ code " "
 first_blank v n h =

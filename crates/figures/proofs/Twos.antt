@@ -2,7 +2,7 @@
 -- Assumes nothing.
 use Rattle.std.proofs.Common.{◌≡◌, ℕ, ◌+◌, ◌*◌, ◌%◌, ◌^◌, ◌<◌, ◌≤◌, true, false, leb, List, [], ◌∷◌, ◌++◌, length, get_or, take, drop, sym, refl, ap, ◌∙◌, arith, drop_of_length-le, le-leb, leb-false, leb-true}
 use Prim.Native.Char.{code}
-use mathlib.Core.Bool.{and_false, and-eq-true_iff, false≢true}
+use mathlib.Core.Bool.{and-false, and-eq-true_iff, false≢true}
 use Rattle.rules.specs.Figures.{is_digit, all_digits_of, number_after}
 use Rattle.figures.specs.Two.{TwoOf, bytes_at, two_at}
 use Rattle.figures.proofs.Lists.{drop_step, by_test}
@@ -45,7 +45,7 @@ two_most v i h = let t = two (get_or v i 0) (get_or v (i + 1) 0) h in omega arit
 
 -- and what is read of them
 pub no_ones : (x y : ℕ) → is_digit y ≡ false → TwoOf (x ∷ y ∷ []) 100
-no_ones x y h = record { digits = λ few. absurd (omega (arith, few)); none = λ many. simp (h, and_false) }
+no_ones x y h = record { digits = λ few. absurd (omega (arith, few)); none = λ many. simp (h, and-false) }
 
 -- the bytes as tens and ones less 528, modulo 2^64
 unwrapped : (s r : ℕ) → 528 ≤ s → r < 2 ^ 64 → (r + 528) % 2 ^ 64 ≡ s → r + 528 ≡ s

@@ -26,14 +26,14 @@ pub fn stamp_again(v: &[u8]) -> u64
 }
 
 // The numbers of a price and of lots.
-#[derive(Drop)]
+#[derive(Clone, Copy)]
 pub struct Traded {
     pub price: u64,
     pub lots: u64,
 }
 
 // A price's number, and the place of the blank after it.
-#[derive(Drop)]
+#[derive(Clone, Copy)]
 struct Priced {
     price: u64,
     blank: usize,

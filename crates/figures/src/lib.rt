@@ -1,5 +1,7 @@
 // Reads the figures of a book, and the value of a trade, which is two of them and a stamp. A figure that is well formed has no comma,
 // so a comma is looked for only in a value that could not be read.
+#![tactic(auto)]
+
 ghost use Rattle.std.specs.Prelude.{◌≡◌, ℕ, true};
 ghost use Rattle.rules.specs.declared.Opening.TheVariants.{Made};
 ghost use Rattle.rules.specs.declared.Written.TheVariants.{Number};

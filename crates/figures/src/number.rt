@@ -6,14 +6,14 @@ ghost use Rattle.figures.specs.Numbers.{DigitOf, run, run_number, may_be_whole};
 pub const MOST_DIGITS: usize = 7;
 
 // What digits write.
-#[derive(Drop)]
+#[derive(Clone, Copy)]
 pub enum Digits {
     Number(u64),
     Other,
 }
 
 // The digits at the start of bytes: how many they are, and the number that they write after another.
-#[derive(Drop)]
+#[derive(Clone, Copy)]
 pub struct Run {
     pub size: usize,
     pub number: u64,

@@ -12,7 +12,7 @@ const LONGEST: usize = 16;
 const MOST_LOTS: u64 = 1_000_000;
 
 // The numbers of a price and of lots, and the decimals that the price has.
-#[derive(Drop)]
+#[derive(Clone, Copy)]
 pub enum Pair {
     Both {
         price: u64,

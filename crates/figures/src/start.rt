@@ -7,7 +7,7 @@ use crate::number::{Digits, MOST_DIGITS, may_be_whole, read_run};
 use crate::two::two_at;
 
 // All its digits as one number, how many of them stand behind a point, and the place after it.
-#[derive(Drop)]
+#[derive(Clone, Copy)]
 pub enum Start {
     Ends {
         number: u64,

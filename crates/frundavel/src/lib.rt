@@ -1,4 +1,6 @@
 // Every call for C, in one archive. A call takes the bytes as they come and asks for nothing.
+#![tactic(auto)]
+
 ghost use Rattle.std.specs.Prelude.{length};
 ghost use Rattle.rules.specs.Answer.{fitted, answer};
 ghost use Rattle.reasons.specs.Reason.{field_at, reason};

@@ -1,5 +1,7 @@
 // Document 01, "Unit gain and standing", in exact i64: gains are signed sums of price differences times lots, and edges are
 // compared without division.
+#![tactic(auto)]
+
 ghost use Rattle.std.specs.Prelude.{◌≡◌, ◌*◌, pos, ◌*ℤ◌};
 ghost use Rattle.std.specs.Int.Signed.{le_z};
 ghost use Rattle.rules.specs.Book.{net, net_long};

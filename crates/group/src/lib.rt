@@ -1,4 +1,6 @@
 // Reads a customer's group.
+#![tactic(auto)]
+
 ghost use Rattle.std.specs.Prelude.{◌≡◌, List, ℕ, ◌≤◌, drop};
 ghost use Rattle.rules.specs.Fields.{fields_of};
 ghost use Rattle.rules.specs.Book.{Customer, DueTrade, Open, after_c};
@@ -19,7 +21,7 @@ use rules::{Fen, Position, Standing, Terms, refusal};
 use trades::TradesAt;
 
 // A customer's group up to the field that closes it: the customer's standing, and the lots that it offers and has pending.
-#[derive(Drop)]
+#[derive(Clone, Copy)]
 pub enum GroupAt {
     Closed {
         place: usize,

@@ -1,5 +1,7 @@
 // An input of any length, for programs that read a list of days: its first bytes, and how many line feeds it has in all. What a list comes to
 // depends on nothing else (days_promises, Enough). Of what the C functions do, the kit's contracts say how many bytes moved at most.
+#![tactic(auto)]
+
 ghost use Rattle.std.specs.Prelude.{◌≡◌, ◌≤◌, length, take};
 ghost use Rattle.days.specs.Lines.{feeds};
 ghost use Rattle.intake.specs.Long.{LongCame, Counts, ended_as};
@@ -11,14 +13,14 @@ use shell::{Got, Input, Opened};
 const MOST_FEEDS: usize = 2_001;
 
 // What came: so many bytes at the front of the buffer, and so many line feeds in all; or the program ends here, with a status.
-#[derive(Drop)]
+#[derive(Clone, Copy)]
 pub enum Long {
     Bytes { front: usize, total: usize },
     Ended(u32),
 }
 
 // The line feeds so far, with those of the rest; or the read failed.
-#[derive(Drop)]
+#[derive(Clone, Copy)]
 pub enum Rest {
     Feeds(usize),
     Failed,

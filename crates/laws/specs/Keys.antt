@@ -2,7 +2,7 @@
 -- and what stands behind a digit never outweighs it; 12 places, and a place that a code does not have is 0, below every digit.
 -- Assumes nothing.
 use Rattle.std.specs.Prelude.{ℕ, zero, suc, ◌+◌, ◌-◌, ◌*◌, ◌^◌, ◌≤◌, ◌<◌, min, Bool, true, false, cond, ◌&&◌, ◌||◌, ◌≡◌, refl, List, [], ◌∷◌, length, T, leb, ltb, eqb}
-use Rattle.std.proofs.Math.Bool.{and_false}
+use Rattle.std.proofs.Math.Bool.{and-false}
 use Rattle.std.proofs.Common.{sym, ap, ◌∙◌, mul-le-mul_right, pow-suc, arith, lit<, le-leb, leb-true, leb-false, ltb-true, ltb-false, lt-ltb, le-ltb, eq-eqb, ne_eqb, eqb-true}
 use Rattle.std.proofs.lemmas.Bool.{lt-leb, eqb-false}
 use Rattle.rules.specs.Limits.{longest_code}
@@ -47,7 +47,7 @@ of_number x h k = simp (le-leb 48 x h, le-leb x 57 k)
 
 pub of_letter : (x : ℕ) → 65 ≤ x → x ≤ 90 → digit_of x ≡ x - 54
 unfolding digit_of
-of_letter x h k = simp (lt-leb x 57 (omega arith), le-leb 65 x h, le-leb x 90 k, and_false)
+of_letter x h k = simp (lt-leb x 57 (omega arith), le-leb 65 x h, le-leb x 90 k, and-false)
 
 pub of_other : (x : ℕ) → (48 ≤ x → x ≤ 57 → ⊥) → (65 ≤ x → x ≤ 90 → ⊥) → digit_of x ≡ 0
 of_other x f g = go (kind x)
@@ -108,6 +108,7 @@ base_pos (suc n) = omega (arith, pow-suc 37 n, base_pos n)
 key_lt : (n : ℕ) (v : List ℕ) → Coded n v → key_at n v < 37 ^ n
 key_lt n [] h = base_pos n
 key_lt (suc n) (x ∷ xs) (h, hs) = omega (arith, pow-suc 37 n, mul-le-mul_right (37 ^ n) (digit_le x), key_lt n xs hs)
+key_lt zero (x ∷ xs) h = elim h [ ]
 
 -- a larger digit outweighs what stands behind it
 outweighs : (n : ℕ) {d d' k : ℕ} (l : ℕ) → d < d' → k < 37 ^ n → d * 37 ^ n + k < d' * 37 ^ n + l
@@ -134,6 +135,8 @@ compare (suc n) (x ∷ xs) (y ∷ ys) (h, hs) (h', hs') = go (ltb x y) (eqb x y)
     go false true e f (equal s t i) = equal (rw (e, f, s)) (rw (f, t)) (omega (arith, ap (λ z. digit_of z * 37 ^ n) (eqb-true x y f)))
     go false true e f (more s t i) = more (rw (e, f, s)) (rw (f, t)) (omega (arith, ap (λ z. digit_of z * 37 ^ n) (eqb-true x y f)))
     go false false e f ih = more (rw (e, f)) (rw f) (outweighs n (key_at n xs) (digit_mono y x h' h (omega (arith, ltb-false, eqb-false x y f))) (key_lt n ys hs'))
+compare zero [] (y ∷ ys) h h' = elim h' [ ]
+compare zero (x ∷ xs) b h h' = elim h [ ]
 
 -- what a code is, as one fact
 code_coded : (v : List ℕ) → is_code v ≡ true → Coded longest_code v

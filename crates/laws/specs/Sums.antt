@@ -39,6 +39,7 @@ module _ {A : Type 0} where
   sum_lt f g (b ∷ rest) h a (Memᴰ.head e) k = omega (arith, ap f e, ap g e, sum_mono f g rest (λ c m. h c (Memᴰ.tail m)))
   sum_lt f g (b ∷ rest) h a (Memᴰ.tail m) k =
       omega (arith, h b (Memᴰ.head refl), sum_lt f g rest (λ c n. h c (Memᴰ.tail n)) a m k)
+  sum_lt f g [] h a x3 k = elim x3 [ ]
 
   pub sum-add : (f g : A → ℕ) (l : List A) → sum_of (λ a. f a + g a) l ≡ sum_of f l + sum_of g l
   sum-add f g [] = refl
@@ -60,6 +61,7 @@ module _ {A : Type 0} where
   pub sum-mem : (f : A → ℕ) (l : List A) (a : A) → Memᴰ a l → f a ≤ sum_of f l
   sum-mem f (b ∷ rest) a (Memᴰ.head e) = omega (arith, ap f e)
   sum-mem f (b ∷ rest) a (Memᴰ.tail m) = omega (arith, sum-mem f rest a m)
+  sum-mem f [] a x' = elim x' [ ]
 
 pub sum-map : {A B : Type 0} (f : B → ℕ) (g : A → B) (l : List A) → sum_of f (map g l) ≡ sum_of (λ a. f (g a)) l
 sum-map f g [] = refl
@@ -98,6 +100,7 @@ module _ {A : Type 0} where
       go false e ih =
           let last : n ≡ i = omega (arith, ltb-false) in
           get_or_at (map f (up_to n)) (f n) [] d i (size ∙ last) ∙ ap f last
+  get_d_up_to f d zero i h = elim h [ ]
 
   pub sum_index : (f : A → ℕ) (d : A) (l : List A) → sum_of (λ i. f (get_or l i d)) (up_to (length l)) ≡ sum_of f l
   sum_index f d l = sym (sum-map f (λ i. get_or l i d) (up_to (length l))) ∙ ap (sum_of f) (map_up_to d l)

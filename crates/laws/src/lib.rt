@@ -1,1 +1,2 @@
 // Theorems about the definitions, in specs/; no code.
+#![tactic(auto)]

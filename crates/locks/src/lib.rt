@@ -1,4 +1,6 @@
 // The lock ladder: a list and a lent run in, one step a day out.
+#![tactic(auto)]
+
 mod lock;
 mod rung;
 
@@ -20,7 +22,7 @@ use rung::{KINDS, rung_of, step_at};
 
 // What Article 18's check of a first lock came to: the raise holds or fails; or no day follows, or the limit of the locked day or of the next
 // day is missing.
-#[derive(Drop)]
+#[derive(Clone, Copy)]
 pub enum Raise {
     Holds,
     Fails,
@@ -31,7 +33,7 @@ pub enum Raise {
 
 // A day's step: not locked; a first lock, with what its check came to; a lock in the same direction as the day before, with the days running; or
 // one in the other direction.
-#[derive(Drop)]
+#[derive(Clone, Copy)]
 pub enum Step {
     NotLocked,
     First(Raise),

@@ -1,5 +1,7 @@
 // The program: a list of any length from a file or from standard input; its listing to standard output, the words of a refusal to standard
 // error, and a status.
+#![tactic(auto)]
+
 mod listing;
 
 ghost use Rattle.std.specs.Prelude.{◌≡◌, false, length, ◌≤◌};
@@ -26,7 +28,7 @@ const LISTING_ROOM: usize = 88_064;
 const SAID_ROOM: usize = 256;
 
 // What a list comes to: a status, and how many bytes of the listing and of the line stand at the front of their buffers.
-#[derive(Drop)]
+#[derive(Clone, Copy)]
 pub struct Told {
     pub status: u32,
     pub listed: usize,

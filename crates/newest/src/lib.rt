@@ -1,5 +1,7 @@
 // The gain of the newest lots of trades in any order of their stamps. Where a customer has more trades than the store holds, the book is gone
 // over a few times, and no trade is stored: each time the range is narrowed in which the edge lies, the stamp of the oldest lot that counts.
+#![tactic(auto)]
+
 ghost use Rattle.std.specs.Prelude.{◌≡◌, ◌+◌, ◌-◌, ◌*◌, ◌≤◌, ◌<◌, cond, ltb, eqb};
 ghost use Rattle.fields.specs.Ranges.{Short};
 ghost use Rattle.order.specs.Buckets.{bucket_of};
@@ -22,14 +24,14 @@ struct Buckets {
 }
 
 // A bucket, and the lots from its start on.
-#[derive(Drop)]
+#[derive(Clone, Copy)]
 struct Step {
     bucket: u64,
     have: u64,
 }
 
 // A stamp, and the lots of it or later.
-#[derive(Drop)]
+#[derive(Clone, Copy)]
 struct Edge {
     stamp: u64,
     have: u64,

@@ -35,16 +35,18 @@ module _ {A : Type 0} (stamp lots : A → ℕ) (gain : A → ℕ → ℤ) where
         let b = le-leb (e + 1) (stamp t) (omega arith) in
         let h' : lots t + from (e + 1) ≤ need = rw b at h in
         let k' : need ≤ lots t + from e = rw a at k in
-        rw (a, later) (joined (ih (omega arith) (omega arith) ∙ ap (λ (m : ℕ). kept_gain stamp lots gain e m ts) (omega arith)) (omega arith)))
+        let all : lots_from stamp lots e (t ∷ ts) ≡ lots t + from e = rw a refl in
+        rw (all, later) (joined (ih (omega arith) (omega arith) ∙ ap (λ (m : ℕ). kept_gain stamp lots gain e m ts) (omega arith)) (omega arith)))
         (λ not-later. by_test (eqb (stamp t) e)
         (λ same.
         let l = eqb-true (stamp t) e same in
         let a = le-leb e (stamp t) (omega arith) in
         let none = none_from stamp lots (stamp t) (e + 1) ts (omega arith) n in
         let k' : need ≤ lots t + from e = rw a at k in
+        let all : lots_from stamp lots e (t ∷ ts) ≡ lots t + from e = rw a refl in
         let split = from_split stamp lots e ts in
-        rw (a, not-later, same) (joined
-        (ih (omega arith) (omega arith) ∙ capped (omega arith))
+        rw (all, not-later, same) (joined
+        (ih (omega arith) (omega arith) ∙ capped (omega arith) ∙ ap (λ (m : ℕ). kept_gain stamp lots gain e m ts) (omega arith))
         (omega arith)))
         (λ apart.
         let l = ltb-false e (stamp t) not-later in
@@ -53,7 +55,8 @@ module _ {A : Type 0} (stamp lots : A → ℕ) (gain : A → ℕ → ℤ) where
         let none = none_from stamp lots (stamp t) e ts (omega arith) n in
         let later = none_from stamp lots (stamp t) (e + 1) ts (omega arith) n in
         let k' : need ≤ 0 + from e = rw a at k in
-        rw (a, not-later, apart) (joined (ih (omega arith) (omega arith) ∙ ap (λ (m : ℕ). kept_gain stamp lots gain e m ts) (omega arith)) (omega arith))))
+        let all : lots_from stamp lots e (t ∷ ts) ≡ 0 + from e = rw a refl in
+        rw (all, not-later, apart) (joined (ih (omega arith) (omega arith) ∙ ap (λ (m : ℕ). kept_gain stamp lots gain e m ts) (omega arith)) (omega arith))))
       where
         joined : {z w : ℤ} {a b : ℕ} → z ≡ w → a ≡ b → gain t a +ℤ z ≡ w +ℤ gain t b
         joined {z} {w} {a} {b} p q = +ℤ_comm (gain t a) z ∙ ap₂ (λ (x : ℤ) (y : ℕ). x +ℤ gain t y) p q

@@ -1,4 +1,6 @@
 // Reads a customer's seats, and adds up their positions.
+#![tactic(auto)]
+
 ghost use Rattle.std.specs.Prelude.{◌≡◌, ◌≤◌, take, drop};
 ghost use Rattle.rules.specs.Fields.{fields_of};
 ghost use Rattle.rules.specs.Limits.{most_seats};
@@ -11,21 +13,21 @@ use codes::Code;
 use fields::{FigureAt, Found, Refusal};
 use rules::{Lots, MOST_SEATS, Position, Terms, refusal, tag};
 
-#[derive(Drop)]
+#[derive(Clone, Copy)]
 pub enum PositionAt {
     Read { position: Position, next: usize },
     Refused(Refusal),
 }
 
 // The key of a seat's code, which its customer has at no other seat, and the place after its field.
-#[derive(Drop)]
+#[derive(Clone, Copy)]
 pub enum KeyAt {
     New { key: u64, next: usize },
     Refused(Refusal),
 }
 
 // A seat: the key of its code, its position, and the place after it.
-#[derive(Drop)]
+#[derive(Clone, Copy)]
 pub enum SeatAt {
     Read {
         key: u64,

@@ -1,4 +1,6 @@
 // The lines of a listing, written into a lent buffer.
+#![tactic(auto)]
+
 ghost use Rattle.std.specs.Prelude.{[], ◌++◌};
 ghost use Rattle.rules.specs.Book.{Refused};
 ghost use Rattle.rules.specs.Report.{digits, printed, listing_of};

@@ -1,1 +1,2 @@
 // What the user was promised, as theorems, in specs/; no code.
+#![tactic(auto)]

@@ -1,5 +1,7 @@
 // What a refusal says in words: its number, its place, and the field there where it is a book's. The words stand in texts of lines, one line
 // for each number or field, so that one function writes them all. Each text has a function of its own: it stands on the stack.
+#![tactic(auto)]
+
 ghost use Rattle.std.specs.Prelude.{◌≡◌, ◌+◌, ◌-◌, ◌≤◌, ◌<◌, length, drop};
 ghost use Rattle.writing.specs.Written.{Room, Wrote};
 ghost use Rattle.reasons.specs.Lines.{left_behind, behind_lines, first_line, line_of};

@@ -1,4 +1,6 @@
 // The report and the listing of an accepted book: the codes stand in the book, and the rest in the customers' columns.
+#![tactic(auto)]
+
 mod seated;
 
 ghost use Rattle.std.specs.Prelude.{◌≡◌, ◌-◌, ◌≤◌, ◌<◌, length, get_or};

@@ -1,4 +1,6 @@
 // The roll: all customers of a book, or its refusal.
+#![tactic(auto)]
+
 ghost use Rattle.std.specs.Prelude.{◌≡◌, ◌-◌, ◌≤◌, length, take, drop};
 ghost use Rattle.rules.specs.Limits.{most_customers};
 ghost use Rattle.rules.specs.Fields.{fields_of};
@@ -15,7 +17,7 @@ use rules::{Standing, Terms, refusal, tag};
 use terms::TermsAt;
 
 // Either a refusal, or number 0, how many customers the columns hold, and whether the contract is locked at its lower limit.
-#[derive(Drop)]
+#[derive(Clone, Copy)]
 pub struct Roll {
     pub refusal: Refusal,
     pub count: usize,
@@ -23,14 +25,14 @@ pub struct Roll {
 }
 
 // The key of a new customer.
-#[derive(Drop)]
+#[derive(Clone, Copy)]
 pub enum CodeAt {
     Key(u64),
     Refused(Refusal),
 }
 
 // A new customer: its key, where its group ends, its standing's byte and its stake.
-#[derive(Drop)]
+#[derive(Clone, Copy)]
 pub enum CustomerAt {
     New {
         key: u64,

@@ -1,4 +1,6 @@
 // The call worked in rows: for the comparison and the benchmark of both layouts. The product's archive has none of it.
+#![tactic(auto)]
+
 ghost use Rattle.std.specs.Prelude.{length};
 ghost use Rattle.rules.specs.Answer.{answer};
 ghost use Rattle.answers.specs.Answered.{Answered};

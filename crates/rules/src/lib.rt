@@ -1,5 +1,7 @@
 // The types of the paper: what document 01 and requests [2] to [5] name, and the limits; and "the smaller of", which it says of lots twice. The rules
 // themselves are definitions, in specs/.
+#![tactic(auto)]
+
 pub mod refusal;
 pub mod tag;
 
@@ -7,21 +9,21 @@ ghost use Rattle.std.specs.Prelude.{◌≡◌, min};
 
 // A price. "Prices are in fen, positions in lots and rates in thousandths of a percent": three types, so that an edge
 // cannot be handed in as a price. With X 0 all prices of the book are in yuan.
-#[derive(Drop)]
+#[derive(Clone, Copy)]
 pub struct Fen(pub u64);
 
-#[derive(Drop)]
+#[derive(Clone, Copy)]
 pub struct Lots(pub u64);
 
-#[derive(Drop)]
+#[derive(Clone, Copy)]
 pub struct Rate(pub u64);
 
 // When a trade was made: a number that orders trading days, and within one day its minutes.
-#[derive(Drop)]
+#[derive(Clone, Copy)]
 pub struct Stamp(pub u64);
 
 // What a figure says, whoever asks: all its digits as one number, and how many of them stand behind a point; or why it is no figure.
-#[derive(Drop)]
+#[derive(Clone, Copy)]
 pub enum Written {
     Number { number: u64, decimals: usize },
     Comma,
@@ -29,7 +31,7 @@ pub enum Written {
 }
 
 // What it says to who asks. The number is in the figure's own unit: fen or yuan, lots or thousandths of a percent.
-#[derive(Drop)]
+#[derive(Clone, Copy)]
 pub enum Figure {
     Value(u64),
     Comma,
@@ -37,7 +39,7 @@ pub enum Figure {
 }
 
 // What who asks allows: so many decimals, and the number from `least` to `most`.
-#[derive(Drop)]
+#[derive(Clone, Copy)]
 pub struct Form {
     pub decimals: usize,
     pub least: u64,
@@ -46,7 +48,7 @@ pub struct Form {
 
 // The terms D, X, S, L, U, V: locked at the lower limit, the decimals of every price, the settlement price, the loss edge, the lower edges
 // of T1 and T2.
-#[derive(Drop)]
+#[derive(Clone, Copy)]
 pub struct Terms {
     pub down: bool,
     pub decimals: usize,
@@ -57,7 +59,7 @@ pub struct Terms {
 }
 
 // K, H and Q: lots held long, held short, and unfilled close-out lots at the limit price at market close.
-#[derive(Drop)]
+#[derive(Clone, Copy)]
 pub struct Position {
     pub long: Lots,
     pub short: Lots,
@@ -65,7 +67,7 @@ pub struct Position {
 }
 
 // An opening trade: bought or sold, its price, its lots and when it was made.
-#[derive(Drop)]
+#[derive(Clone, Copy)]
 pub struct Trade {
     pub bought: bool,
     pub price: Fen,
@@ -74,7 +76,7 @@ pub struct Trade {
 }
 
 // What the value of a B or an A says: a trade, and the decimals that its price is written with.
-#[derive(Drop)]
+#[derive(Clone, Copy)]
 pub enum Opening {
     Made { trade: Trade, decimals: usize },
     Comma,
@@ -82,7 +84,7 @@ pub enum Opening {
 }
 
 // P, 1, 2, 3 and N: pending, in a tier, neither.
-#[derive(Drop)]
+#[derive(Clone, Copy)]
 pub enum Standing {
     Pending,
     Tier1,

@@ -1,4 +1,6 @@
 // A customer's seats, read again where they stand in the book, and its offset divided over them.
+#![tactic(auto)]
+
 ghost use Rattle.std.specs.Prelude.{◌≡◌, true, ◌+◌, ◌≤◌, length, drop};
 ghost use Rattle.rules.specs.Codes.{is_code};
 ghost use Rattle.rules.specs.Fields.{fields_of};
@@ -15,7 +17,7 @@ use rules::{Figure, MOST_SEATS, Standing, tag};
 
 // Where a seat stands in the book: its code from `start` to `end`, where its K begins; its H begins at `short`, its Q at `unfilled`, and
 // its Q ends at `next`.
-#[derive(Drop)]
+#[derive(Clone, Copy)]
 pub struct Places {
     pub start: usize,
     pub end: usize,
@@ -24,7 +26,7 @@ pub struct Places {
     pub next: usize,
 }
 
-#[derive(Drop)]
+#[derive(Clone, Copy)]
 pub enum SeatAt {
     Found(Places),
     NoSeat,
@@ -135,7 +137,7 @@ fn key_of(book: &[u8], start: usize, end: usize) -> u64
 }
 
 // How many seats there are, and the sum of their weights.
-#[derive(Drop)]
+#[derive(Clone, Copy)]
 struct Weights {
     count: usize,
     sum: u64,

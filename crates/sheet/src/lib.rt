@@ -1,5 +1,7 @@
 // The program: a sheet to its book, or a book to its sheet, from a file or from standard input to standard output; the words of a refusal to
 // standard error, and a status.
+#![tactic(auto)]
+
 ghost use Rattle.std.specs.Prelude.{◌≡◌, ◌≤◌, length};
 ghost use Rattle.shell.specs.Shell.{Came};
 ghost use Rattle.allotment.specs.Listed.{Listed};
@@ -21,7 +23,7 @@ const ROOM: usize = 120_000;
 const SAID_ROOM: usize = 256;
 
 // What the first word asks for.
-#[derive(Drop)]
+#[derive(Clone, Copy)]
 pub enum Task {
     Read,
     Write,
@@ -30,7 +32,7 @@ pub enum Task {
 }
 
 // What the word behind `write` asks for.
-#[derive(Drop)]
+#[derive(Clone, Copy)]
 pub enum Spelling {
     In(u8),
     Option,
@@ -38,7 +40,7 @@ pub enum Spelling {
 }
 
 // What is said of an answer: a status, and how many bytes of the line stand at the front of its buffer.
-#[derive(Drop)]
+#[derive(Clone, Copy)]
 pub struct Said {
     pub status: u32,
     pub length: usize,

@@ -2,7 +2,7 @@
 -- Assumes nothing.
 use Prim.Native.Nat.{ℕ, ◌+◌, ◌≤◌, ◌<◌}
 use mathlib.Core.Path.{◌≡◌, refl, sym, ap, ap₂, ◌∙◌}
-use mathlib.Core.Bool.{Bool, true, false, ◌&&◌, and_false, and-eq-true_iff}
+use mathlib.Core.Bool.{Bool, true, false, ◌&&◌, and-false, and-eq-true_iff}
 use mathlib.Core.List.{List, [], ◌∷◌, ◌++◌}
 use native.Mathlib.Omega.{arith}
 use borrow.Author.Tests.{eq-eqb, ne_eqb, eqb-true}
@@ -20,7 +20,7 @@ use Rattle.sheets.proofs.Bytes.{drop_step}
 pub too_long : (word s : List ℕ) → length s < length word → begins word s ≡ false
 too_long [] s h = absurd (omega arith)
 too_long (x ∷ word) [] h = refl
-too_long (x ∷ word) (y ∷ s) h = rw (too_long word s (omega arith)) (and_false (eqb y x))
+too_long (x ∷ word) (y ∷ s) h = rw (too_long word s (omega arith)) (and-false (eqb y x))
 
 module _ (word s : List ℕ) (i : ℕ) where
   pub next_equal : i < length word → i < length s → get_or s i 0 ≡ get_or word i 0 → begins (drop i word) (drop i s) ≡ begins (drop (i + 1) word) (drop (i + 1) s)
@@ -44,8 +44,8 @@ longer_none y (Cut v ∷ ls) = refl
 longer_none y (Whole v ∷ ls) = refl
 
 longer_some : (x y : ℕ) (w : List ℕ) (ls : List Line) → first_is (x ∷ w) (longer y ls) ≡ (eqb y x && first_is w ls)
-longer_some x y w [] = sym (and_false (eqb y x))
-longer_some x y w (Cut v ∷ ls) = sym (and_false (eqb y x))
+longer_some x y w [] = sym (and-false (eqb y x))
+longer_some x y w (Cut v ∷ ls) = sym (and-false (eqb y x))
 longer_some x y w (Whole v ∷ ls) = refl
 
 -- a byte that is a line feed is none of a word's

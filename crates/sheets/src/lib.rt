@@ -1,4 +1,6 @@
 // Comma sheets: a sheet read into a book, and a book written as a sheet in either mark.
+#![tactic(auto)]
+
 mod judging;
 mod line;
 mod putting;

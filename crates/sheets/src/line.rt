@@ -3,7 +3,7 @@ ghost use Rattle.std.specs.Prelude.{◌≡◌, ◌≤◌, ◌<◌, ◌+◌, leng
 ghost use Rattle.sheets.specs.Places.{stops, stopless, leads, Begun, Shows};
 
 // A line of one part behind its letter, or of four: the letter, and where each part ends. Any other is no line, and so is one that no line feed ends.
-#[derive(Drop)]
+#[derive(Clone, Copy)]
 pub enum Form {
     One {
         tag: u8,

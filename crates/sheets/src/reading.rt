@@ -14,14 +14,14 @@ use rules::tag;
 use writing::put_three;
 
 // Where the next field is written, and where the next line begins.
-#[derive(Drop)]
+#[derive(Clone, Copy)]
 pub struct Put {
     pub place: usize,
     pub next: usize,
 }
 
 // The book's length; or the sheet's refusal.
-#[derive(Drop)]
+#[derive(Clone, Copy)]
 pub enum Made {
     Book(usize),
     Refused { number: u64, place: usize },

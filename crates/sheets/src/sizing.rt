@@ -16,14 +16,14 @@ use crate::spelling::stands_in;
 use rules::tag;
 
 // A line: where the next one begins, and how many bytes it makes; or the number of its refusal.
-#[derive(Drop)]
+#[derive(Clone, Copy)]
 pub enum Sized {
     Good { next: usize, size: usize },
     Bad(u64),
 }
 
 // All lines: how many bytes they make; or the first refusal.
-#[derive(Drop)]
+#[derive(Clone, Copy)]
 pub enum Size {
     Length(usize),
     Refused { number: u64, place: usize },

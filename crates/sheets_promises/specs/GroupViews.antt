@@ -6,7 +6,7 @@ use Rattle.std.specs.Prelude.{◌≡◌, List, true, not, ◌&&◌, ◌||◌, le
 use Rattle.std.proofs.Math.Path.{refl}
 use Rattle.std.proofs.Common.{sym, ap, subst}
 use Rattle.std.proofs.Math.Bool.{and-eq-true_iff}
-use Rattle.std.proofs.lemmas.Bool.{not_false}
+use Rattle.std.proofs.lemmas.Bool.{not-false}
 use Rattle.std.proofs.Math.Dec.{ltb}
 use Rattle.rules.specs.declared.Terms.{Terms}
 use Rattle.rules.specs.declared.Trade.{Trade}
@@ -40,7 +40,7 @@ module _ (terms : Terms) (cs : List Customer) (c : Customer) (t : ℕ) (v : List
   sits_view p b tag e =
       let (good, r) = refuse_next refusal.malformed (not (is_code v)) _ h e in
       let n = (refuse_next refusal.seat_twice (seated v c.seats) (Next (Open (DueK (seat_at v 0 0 0)) c)) h r).1 in
-      onto terms cs (Open p c) "I" t v (Open (DueK (seat_at v 0 0 0)) c) h tag n (an_i b (code_good v (not_false (is_code v) good)))
+      onto terms cs (Open p c) "I" t v (Open (DueK (seat_at v 0 0 0)) c) h tag n (an_i b (code_good v (not-false (is_code v) good)))
 
   trades_view : (p : Part) → may_end p ≡ true → tradeStep terms c t v ≡ Next h → Onto terms cs (Open p c) t v h
   trades_view p m e =

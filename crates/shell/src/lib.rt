@@ -1,5 +1,7 @@
 // What every program has with its shell: the words of the command line, an input, an output, what is said on standard error, and a
 // status. Of what the C functions do, the kit's contracts say how many bytes moved at most; that these are the file's is not proved.
+#![tactic(auto)]
+
 ghost use Rattle.std.specs.Prelude.{◌≡◌, ◌⊎◌, ◌≤◌, length};
 ghost use Rattle.laws.specs.Filled.{filled};
 ghost use Rattle.shell.specs.Shell.{
@@ -27,21 +29,21 @@ pub const REFUSED: u32 = 1;
 pub const FAILED: u32 = 2;
 
 // What a read came to: so many bytes, which are all of the input or fill the buffer; or it failed.
-#[derive(Drop)]
+#[derive(Clone, Copy)]
 pub enum Got {
     Read(usize),
     Failed,
 }
 
 // What a program has to go on with: so many bytes of input; or it ends here, with a status.
-#[derive(Drop)]
+#[derive(Clone, Copy)]
 pub enum Input {
     Bytes(usize),
     Ended(u32),
 }
 
 // The file that a word names: its descriptor, and the length of its name; or the program ends here, with a status.
-#[derive(Drop)]
+#[derive(Clone, Copy)]
 pub enum Opened {
     File { fd: i32, name: usize },
     Ended(u32),

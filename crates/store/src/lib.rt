@@ -1,5 +1,7 @@
 // The gain of the newest lots of trades that do not come in order of their stamps, where they are few enough to be held. The book is read once,
 // and nothing is sorted: what counts of a trade is the smaller of its lots and of what is still needed after all newer ones.
+#![tactic(auto)]
+
 ghost use Rattle.std.specs.Prelude.{◌≡◌, ◌+◌, ◌-◌, ◌≤◌, ◌<◌, min, cond, leb};
 ghost use Rattle.fields.specs.Ranges.{Short};
 ghost use Rattle.trades.specs.Walk.{Readable};
@@ -9,7 +11,7 @@ use rules::{Fen, lesser};
 use trades::Next;
 
 // The gain of the newest lots, or that the trades do not fit the store.
-#[derive(Drop)]
+#[derive(Clone, Copy)]
 pub enum Stored {
     Gain(i64),
     TooMany,

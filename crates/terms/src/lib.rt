@@ -1,4 +1,6 @@
 // Reads the terms of a book.
+#![tactic(auto)]
+
 ghost use Rattle.std.specs.Prelude.{◌≡◌, cond, drop};
 ghost use Rattle.rules.specs.Fields.{fields_of};
 ghost use Rattle.terms.specs.Terms.{letter_from, after_lock, after_places, after_loss, terms_of};
@@ -7,13 +9,13 @@ use fields::{FigureAt, Found, Refusal};
 use rules::{Fen, Rate, Terms, refusal, tag};
 
 // Which of two letters the one byte of a field is, and the place after the field.
-#[derive(Drop)]
+#[derive(Clone, Copy)]
 pub enum LetterAt {
     Chosen { first: bool, next: usize },
     Refused(Refusal),
 }
 
-#[derive(Drop)]
+#[derive(Clone, Copy)]
 pub enum TermsAt {
     Read { terms: Terms, next: usize },
     Refused(Refusal),

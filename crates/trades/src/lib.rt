@@ -1,4 +1,6 @@
 // Goes over a customer's trades.
+#![tactic(auto)]
+
 ghost use Rattle.std.specs.Prelude.{◌≡◌, ◌≤◌, ◌||◌, pos, drop};
 ghost use Rattle.rules.specs.Text.{is};
 ghost use Rattle.rules.specs.Fields.{fields_of};
@@ -14,7 +16,7 @@ use rules::{Fen, Opening, Trade, lesser, refusal, tag};
 
 // A customer's trades up to the field that closes the group: the lots opened on the side of its net position, their gain, and whether they
 // come in order of their stamps.
-#[derive(Drop)]
+#[derive(Clone, Copy)]
 pub enum TradesAt {
     Closed {
         place: usize,
@@ -26,14 +28,14 @@ pub enum TradesAt {
 }
 
 // A trade that stands at a place and where it ends, or that none does.
-#[derive(Drop)]
+#[derive(Clone, Copy)]
 pub enum Next {
     At { trade: Trade, end: usize },
     End,
 }
 
 // The stamp of the last trade on a side, or 0, and whether none is below the one before.
-#[derive(Drop)]
+#[derive(Clone, Copy)]
 struct Order {
     last: u64,
     kept: bool,

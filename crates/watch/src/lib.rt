@@ -1,4 +1,6 @@
 // The day watch: a list and a lent run of bytes in, one byte a day out; and the listing of a list.
+#![tactic(auto)]
+
 mod span;
 mod table;
 

@@ -5,7 +5,7 @@ ghost use Rattle.watch.specs.Table.{first_row, row_at};
 use days::Metal;
 
 // A span of so many days, and the percentages that price and open interest must reach over it.
-#[derive(Drop)]
+#[derive(Clone, Copy)]
 pub struct Row {
     pub days: usize,
     pub price: u64,

@@ -1,5 +1,7 @@
 // Bytes and digits, written into a lent buffer. Each `put` writes at a place, answers the place behind what it wrote, and leaves
 // every other byte as it was.
+#![tactic(auto)]
+
 ghost use Rattle.std.specs.Prelude.{◌≡◌, [], ◌∷◌, ◌≤◌, length};
 ghost use Rattle.rules.specs.Report.{digits, letter};
 ghost use Rattle.writing.specs.Written.{Room, Wrote};

@@ -10,43 +10,43 @@ use Rattle.codes.proofs.Laws.{given_step}
 use Rattle.codes.proofs.given.Statement.{statement}
 use Rattle.codes.proofs.given.Tie as tie
 
-abbrev invariant-loop : tie.invariant-loop
-invariant-loop keys count key found₀ passed₀ found passed = (passed ≤ count) × (found ≡ given_in (take passed keys) key)
+abbrev invariant-loop-passed : tie.invariant-loop-passed
+invariant-loop-passed keys count key found₀ passed₀ found passed = (passed ≤ count) × (found ≡ given_in (take passed keys) key)
 
-abbrev decreases-loop : tie.decreases-loop
-decreases-loop keys count key found₀ passed₀ found passed = count - passed
+abbrev decreases-loop-passed : tie.decreases-loop-passed
+decreases-loop-passed keys count key found₀ passed₀ found passed = count - passed
 
-loop-holds : tie.Need-loop-init invariant-loop decreases-loop
+loop-holds : tie.Need-loop-passed-init invariant-loop-passed decreases-loop-passed
 loop-holds c = (omega arith, refl)
 
-mul-found : tie.Need-overflow-mul-found invariant-loop decreases-loop
+mul-found : tie.Need-offset_bounds-keys-passed invariant-loop-passed decreases-loop-passed
 mul-found c = search rules
 
-shared-slice-read-found : tie.Need-shared-slice-read-found invariant-loop decreases-loop
+shared-slice-read-found : tie.Need-bounds-keys-passed invariant-loop-passed decreases-loop-passed
 shared-slice-read-found c = search rules
 
-add-passed : tie.Need-overflow-add-passed invariant-loop decreases-loop
+add-passed : tie.Need-overflow_add-passed invariant-loop-passed decreases-loop-passed
 add-passed c = search rules
 
-loop-less : tie.Need-loop-smaller invariant-loop decreases-loop
+loop-less : tie.Need-loop-passed-smaller invariant-loop-passed decreases-loop-passed
 loop-less c = search rules
 
-loop-again : tie.Need-loop-preserved invariant-loop decreases-loop
+loop-again : tie.Need-loop-passed-preserved invariant-loop-passed decreases-loop-passed
 loop-again c =
     let p = c.before.before in
-    (search rules, rw p.loop.invariant.1 (given_step p.before.args.keys.now p.loop.passed p.before.args.key (omega arith)))
+    (search rules, rw p.loop-passed.invariant.1 (given_step p.before.args.keys.now p.loop-passed.passed p.before.args.key (omega arith)))
 
-returns : tie.Need-returns invariant-loop decreases-loop
+returns : tie.Need-returns invariant-loop-passed decreases-loop-passed
 returns c =
-    let end : c.before.loop.passed ≡ c.before.before.args.count = omega arith in
-    rw (c.before.loop.invariant.1, end)
+    let end : c.before.loop-passed.passed ≡ c.before.before.args.count = omega arith in
+    rw (c.before.loop-passed.invariant.1, end)
 
-pub given-spec : {M : Type 1} → statement M
-given-spec =
+pub given_spec : {M : Type 1} → statement M
+given_spec =
     tie.close
     (tie.spec
-    invariant-loop
-    decreases-loop
+    invariant-loop-passed
+    decreases-loop-passed
     loop-holds
     mul-found
     shared-slice-read-found

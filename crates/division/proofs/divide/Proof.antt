@@ -19,43 +19,43 @@ module _ (t : tie.After-spread) where
   keys = start.args.keys.now
 
   begun : Ready start.args.lots.now start.args.count start.args.x start.args.sum
-  begun = let p = start.pre in record { bounded = p.bounded; total = p.total; less = omega (arith, p.most, t.before.before.if1.left) }
+  begun = let p = start.requires in record { bounded = p.bounded; total = p.total; less = omega (arith, p.most, t.if-x-sum.left) }
 
-returns : tie.Need-returns
+returns : tie.Need-returns-then-x-sum
 returns c =
-    let s = c.before.before.before in
+    let s = c in
     let p = s.requires in
-    all_divided s.args.keys.now s.args.lots.now s.args.count s.args.x s.args.sum p.bounded.within p.total c.if1.true
+    all_divided s.args.keys.now s.args.lots.now s.args.count s.args.x s.args.sum p.bounded.within p.total c.if-x-sum.true
 
 spread-requires : tie.Need-spread-requires
 spread-requires c κs =
-    let p = c.before.before.before.before.requires in
-    record { bounded = p.bounded; total = p.total; less = omega (arith, p.most, c.before.if1.false) }
+    let p = c.requires in
+    record { bounded = p.bounded; total = p.total; less = omega (arith, p.most, c.if-x-sum.false) }
 
-sub-spare : tie.Need-overflow-sub-spare
-sub-spare c = let t = c.before.before in given_le (keys t) (begun t) t.spread.ensures
+sub-spare : tie.Need-overflow_sub-spare
+sub-spare c = let t = c in given_le (keys c.before.before) (begun c.before.before) t.spread.ensures
 
-find-last-requires : tie.Need-find-last-requires
+find-last-requires : tie.Need-find_last-last-requires
 find-last-requires c κs =
-    let t = c.before.before.before in
-    ((omega (arith, (start t).requires.bounded.within), (start t).requires.keyed), parted (keys t) (begun t) t.spread.ensures)
+    let t = c in
+    ((omega (arith, (start c.before.before).requires.bounded.within), (start c.before.before).requires.keyed), parted (keys c.before.before) (begun c.before.before) t.spread.ensures)
 
 settle-requires : tie.Need-settle-requires
 settle-requires c κs =
-    let t = c.before.before.before.before.before in
-    ((omega (arith, (start t).requires.bounded.within), (start t).requires.keyed), small (keys t) (begun t) t.spread.ensures)
+    let t = c in
+    ((omega (arith, (start c.before.before.before.before).requires.bounded.within), (start c.before.before.before.before).requires.keyed), small (keys c.before.before.before.before) (begun c.before.before.before.before) t.spread.ensures)
 
-same_length : tie.Need-same-length
+same_length : tie.Need-shape_of-lots
 same_length c = search rules
 
-returns-2 : tie.Need-returns-2
+returns-2 : tie.Need-returns
 returns-2 c =
-    let f = c.before.before.before.before in
-    let t = f.before.before.before.before in
-    settled (keys t) (begun t) t.spread.ensures f.find-last.ensures c.before.before.settle.ensures
+    let f = c in
+    let t = f in
+    settled (keys c.before.before.before.before.before.before.before) (begun c.before.before.before.before.before.before.before) t.spread.ensures f.find_last-last.ensures c.settle.ensures
 
-pub divide-spec : {M : Type 1} → statement M
-divide-spec =
+pub divide_spec : {M : Type 1} → statement M
+divide_spec =
     tie.close
     (tie.spec
     returns

@@ -9,67 +9,67 @@ use borrow.Author.Rules.{rules}
 use Rattle.division.proofs.extent.Statement.{statement}
 use Rattle.division.proofs.extent.Tie as tie
 
-abbrev invariant-loop : tie.invariant-loop
-invariant-loop lots keys count edge least₀ most₀ i₀ least most i = (i ≤ count) × Between lots keys i edge least most
+abbrev invariant-loop-i : tie.invariant-loop-i
+invariant-loop-i lots keys count edge least₀ most₀ i₀ least most i = (i ≤ count) × Between lots keys i edge least most
 
-abbrev decreases-loop : tie.decreases-loop
-decreases-loop lots keys count edge least₀ most₀ i₀ least most i = count - i
+abbrev decreases-loop-i : tie.decreases-loop-i
+decreases-loop-i lots keys count edge least₀ most₀ i₀ least most i = count - i
 
-loop-holds : tie.Need-loop-init invariant-loop decreases-loop
+loop-holds : tie.Need-loop-i-init invariant-loop-i decreases-loop-i
 loop-holds c = (omega arith, record { above = λ i h e. absurd (omega arith); under = λ i h e. absurd (omega arith) })
 
-mul-if1 : tie.Need-overflow-mul-if1 invariant-loop decreases-loop
+mul-if1 : tie.Need-offset_bounds-lots-i invariant-loop-i decreases-loop-i
 mul-if1 c = search rules
 
-shared-slice-read-if1 : tie.Need-shared-slice-read-if1 invariant-loop decreases-loop
+shared-slice-read-if1 : tie.Need-bounds-lots-i invariant-loop-i decreases-loop-i
 shared-slice-read-if1 c = search rules
 
-mul-lesser : tie.Need-overflow-mul-lesser invariant-loop decreases-loop
+mul-lesser : tie.Need-offset_bounds-keys-i invariant-loop-i decreases-loop-i
 mul-lesser c = search rules
 
-shared-slice-read-lesser : tie.Need-shared-slice-read-lesser invariant-loop decreases-loop
+shared-slice-read-lesser : tie.Need-bounds-keys-i invariant-loop-i decreases-loop-i
 shared-slice-read-lesser c = search rules
 
-lesser-requires : tie.Need-lesser-requires invariant-loop decreases-loop
+lesser-requires : tie.Need-lesser-least-requires invariant-loop-i decreases-loop-i
 lesser-requires c κs = search rules
 
-mul-greater : tie.Need-overflow-mul-greater invariant-loop decreases-loop
+mul-greater : tie.Need-offset_bounds-keys-i-then-lots-i invariant-loop-i decreases-loop-i
 mul-greater c = search rules
 
-shared-slice-read-greater : tie.Need-shared-slice-read-greater invariant-loop decreases-loop
+shared-slice-read-greater : tie.Need-bounds-keys-i-then-lots-i invariant-loop-i decreases-loop-i
 shared-slice-read-greater c = search rules
 
-greater-requires : tie.Need-greater-requires invariant-loop decreases-loop
+greater-requires : tie.Need-greater-most-requires invariant-loop-i decreases-loop-i
 greater-requires c κs = search rules
 
-add-i : tie.Need-overflow-add-i invariant-loop decreases-loop
+add-i : tie.Need-overflow_add-i invariant-loop-i decreases-loop-i
 add-i c = search rules
 
-loop-less : tie.Need-loop-smaller invariant-loop decreases-loop
+loop-less : tie.Need-loop-i-smaller invariant-loop-i decreases-loop-i
 loop-less c = search rules
 
-loop-again : tie.Need-loop-preserved invariant-loop decreases-loop
+loop-again : tie.Need-loop-i-preserved invariant-loop-i decreases-loop-i
 loop-again c =
-    let v = c.before.before.before.loop.invariant in
+    let v = c.loop-i.invariant in
     ⊎_elim
     (λ w. rw (w.5, w.6, w.2.ensures, w.4.ensures) (omega arith, one_between v.1))
     (λ w. rw (w.1, w.2) (omega arith, passed_between v.1 w.0.left))
-    c.if1.branch
+    c.if-lots-i.branch
 
-lesser-requires-2 : tie.Need-lesser-requires-2 invariant-loop decreases-loop
+lesser-requires-2 : tie.Need-lesser-requires invariant-loop-i decreases-loop-i
 lesser-requires-2 c κs = search rules
 
-returns : tie.Need-returns invariant-loop decreases-loop
+returns : tie.Need-returns invariant-loop-i decreases-loop-i
 returns c =
-    let e : c.before.before.loop.i ≡ c.before.before.before.before.before.args.count = omega arith in
-    rw c.lesser2.ensures (rw e at (spanned c.before.before.loop.invariant.1))
+    let e : c.loop-i.i ≡ c.args.count = omega arith in
+    rw c.lesser.ensures (rw e at (spanned c.loop-i.invariant.1))
 
-pub extent-spec : {M : Type 1} → statement M
-extent-spec =
+pub extent_spec : {M : Type 1} → statement M
+extent_spec =
     tie.close
     (tie.spec
-    invariant-loop
-    decreases-loop
+    invariant-loop-i
+    decreases-loop-i
     loop-holds
     mul-if1
     shared-slice-read-if1

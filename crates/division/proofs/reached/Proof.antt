@@ -9,51 +9,51 @@ use borrow.Author.Rules.{rules}
 use Rattle.division.proofs.reached.Statement.{statement}
 use Rattle.division.proofs.reached.Tie as tie
 
-abbrev invariant-loop : tie.invariant-loop
-invariant-loop lots keys count edge most n₀ i₀ n i = (i ≤ count) × ((n ≤ i) × (n ≡ count_of lots keys edge i (most + 1)))
+abbrev invariant-loop-i : tie.invariant-loop-i
+invariant-loop-i lots keys count edge most n₀ i₀ n i = (i ≤ count) × ((n ≤ i) × (n ≡ count_of lots keys edge i (most + 1)))
 
-abbrev decreases-loop : tie.decreases-loop
-decreases-loop lots keys count edge most n₀ i₀ n i = count - i
+abbrev decreases-loop-i : tie.decreases-loop-i
+decreases-loop-i lots keys count edge most n₀ i₀ n i = count - i
 
-loop-holds : tie.Need-loop-init invariant-loop decreases-loop
+loop-holds : tie.Need-loop-i-init invariant-loop-i decreases-loop-i
 loop-holds c = search rules
 
-mul-counted : tie.Need-overflow-mul-counted invariant-loop decreases-loop
+mul-counted : tie.Need-offset_bounds-lots-i invariant-loop-i decreases-loop-i
 mul-counted c = search rules
 
-shared-slice-read-counted : tie.Need-shared-slice-read-counted invariant-loop decreases-loop
+shared-slice-read-counted : tie.Need-bounds-lots-i invariant-loop-i decreases-loop-i
 shared-slice-read-counted c = search rules
 
-mul-counted-2 : tie.Need-overflow-mul-counted-2 invariant-loop decreases-loop
+mul-counted-2 : tie.Need-offset_bounds-keys-i invariant-loop-i decreases-loop-i
 mul-counted-2 c = search rules
 
-shared-slice-read-counted-2 : tie.Need-shared-slice-read-counted-2 invariant-loop decreases-loop
+shared-slice-read-counted-2 : tie.Need-bounds-keys-i invariant-loop-i decreases-loop-i
 shared-slice-read-counted-2 c = search rules
 
-counted-requires : tie.Need-counted-requires invariant-loop decreases-loop
+counted-requires : tie.Need-counted-n-requires invariant-loop-i decreases-loop-i
 counted-requires c κs = search rules
 
-add-n : tie.Need-overflow-add-n invariant-loop decreases-loop
-add-n c = omega (arith, c.counted.ensures.1)
+add-n : tie.Need-overflow_add-n invariant-loop-i decreases-loop-i
+add-n c = omega (arith, c.counted-n.ensures.1)
 
-add-i : tie.Need-overflow-add-i invariant-loop decreases-loop
+add-i : tie.Need-overflow_add-i invariant-loop-i decreases-loop-i
 add-i c = search rules
 
-loop-less : tie.Need-loop-smaller invariant-loop decreases-loop
+loop-less : tie.Need-loop-i-smaller invariant-loop-i decreases-loop-i
 loop-less c = search rules
 
-loop-again : tie.Need-loop-preserved invariant-loop decreases-loop
-loop-again c = (search rules, (omega (arith, c.counted.ensures.1), rw sum_more (omega (arith, c.counted.ensures.0))))
+loop-again : tie.Need-loop-i-preserved invariant-loop-i decreases-loop-i
+loop-again c = (search rules, (omega (arith, c.counted-n.ensures.1), rw sum_more (omega (arith, c.counted-n.ensures.0))))
 
-returns : tie.Need-returns invariant-loop decreases-loop
-returns c = let e : c.before.loop.i ≡ c.before.before.before.before.args.count = omega arith in cc
+returns : tie.Need-returns invariant-loop-i decreases-loop-i
+returns c = let e : c.loop-i.i ≡ c.args.count = omega arith in cc
 
-pub reached-spec : {M : Type 1} → statement M
-reached-spec =
+pub reached_spec : {M : Type 1} → statement M
+reached_spec =
     tie.close
     (tie.spec
-    invariant-loop
-    decreases-loop
+    invariant-loop-i
+    decreases-loop-i
     loop-holds
     mul-counted
     shared-slice-read-counted

@@ -14,68 +14,68 @@ use borrow.Author.Rules.{rules}
 use Rattle.division.proofs.spread.Statement.{statement}
 use Rattle.division.proofs.spread.Tie as tie
 
-abbrev invariant-loop : tie.invariant-loop
-invariant-loop lots₀ count x sum whole₀ i₀ lots whole i = (i ≤ count) × (length lots ≡ length lots₀) × Spread lots₀ lots i x sum whole
+abbrev invariant-loop-i : tie.invariant-loop-i
+invariant-loop-i lots₀ count x sum whole₀ i₀ lots whole i = (i ≤ count) × (length lots ≡ length lots₀) × Spread lots₀ lots i x sum whole
 
-abbrev decreases-loop : tie.decreases-loop
-decreases-loop lots₀ count x sum whole₀ i₀ lots whole i = count - i
+abbrev decreases-loop-i : tie.decreases-loop-i
+decreases-loop-i lots₀ count x sum whole₀ i₀ lots whole i = count - i
 
 -- what is read is still the weight
 still : {weights lots : List ℕ} {i x sum whole : ℕ} → Spread weights lots i x sum whole → at lots i ≡ at weights i
 still {weights} {i = i} {x} {sum} s = ap (λ l. at l i) s.parts ∙ filled_next (part_at weights x sum) i weights 0
 
 -- and what it comes to is the member's part
-part : (c : tie.After-part-of invariant-loop decreases-loop) →
-    let s = c.before.before.before.before.before in
-    c.part_of.result ≡ part_at s.args.lots.now s.args.x s.args.sum c.before.before.before.loop.i
+part : (c : tie.After-part_of-part invariant-loop-i decreases-loop-i) →
+    let s = c in
+    c.part_of-part.result ≡ part_at s.args.lots.now s.args.x s.args.sum c.loop-i.i
 part c =
-    let s = c.before.before.before.before.before in
-    c.part_of.ensures ∙ ap (λ w. s.args.x * w / s.args.sum * base + (s.args.sum - s.args.x * w % s.args.sum)) (still c.before.before.before.loop.invariant.2)
+    let s = c in
+    c.part_of-part.ensures ∙ ap (λ w. s.args.x * w / s.args.sum * base + (s.args.sum - s.args.x * w % s.args.sum)) (still c.loop-i.invariant.2)
 
-loop-holds : tie.Need-loop-init invariant-loop decreases-loop
+loop-holds : tie.Need-loop-i-init invariant-loop-i decreases-loop-i
 loop-holds c = (search rules, refl, record { whole = refl; parts = refl })
 
-mul-part-of : tie.Need-overflow-mul-part-of invariant-loop decreases-loop
+mul-part-of : tie.Need-offset_bounds-lots-i invariant-loop-i decreases-loop-i
 mul-part-of c = search rules
 
-slice-read-part-of : tie.Need-slice-read-part-of invariant-loop decreases-loop
+slice-read-part-of : tie.Need-bounds-lots-i invariant-loop-i decreases-loop-i
 slice-read-part-of c = search rules
 
-mul-part-of-2 : tie.Need-overflow-mul-part-of-2 invariant-loop decreases-loop
+mul-part-of-2 : tie.Need-overflow_mul-x invariant-loop-i decreases-loop-i
 mul-part-of-2 c =
-    let l = c.before.before.loop in
-    let s = c.before.before.before.before in
+    let l = c.loop-i in
+    let s = c in
     omega (arith, product_le s.requires l.i (omega arith), ap (λ w. s.args.x * w) (still l.invariant.2))
 
-part-of-requires : tie.Need-part-of-requires invariant-loop decreases-loop
+part-of-requires : tie.Need-part_of-part-requires invariant-loop-i decreases-loop-i
 part-of-requires c κs =
-    let l = c.before.before.loop in
-    let s = c.before.before.before.before in
+    let l = c.loop-i in
+    let s = c in
     let whole : s.args.x * at l.lots l.i / s.args.sum ≤ 4_000_000 = rw (still l.invariant.2) (whole_le s.requires l.i (omega arith)) in
     (omega (arith, s.requires.less), (omega (arith, sum_le s.requires), whole))
 
-mul-lots : tie.Need-overflow-mul-lots invariant-loop decreases-loop
+mul-lots : tie.Need-offset_bounds-lots-i-in-loop-i invariant-loop-i decreases-loop-i
 mul-lots c = search rules
 
-slice-write-lots : tie.Need-slice-write-lots invariant-loop decreases-loop
+slice-write-lots : tie.Need-bounds-lots-i-in-loop-i invariant-loop-i decreases-loop-i
 slice-write-lots c = search rules
 
-add-whole : tie.Need-overflow-add-whole invariant-loop decreases-loop
+add-whole : tie.Need-overflow_add-whole invariant-loop-i decreases-loop-i
 add-whole c =
-    let s = c.before.before.before.before.before in
-    let l = c.before.before.before.loop in
+    let s = c in
+    let l = c.loop-i in
     omega (arith, part c, l.invariant.2.whole, wholes_le s.requires l.i (omega arith), whole_le s.requires l.i (omega arith), whole_in s.requires l.i, s.requires.bounded.few)
 
-add-i : tie.Need-overflow-add-i invariant-loop decreases-loop
+add-i : tie.Need-overflow_add-i invariant-loop-i decreases-loop-i
 add-i c = search rules
 
-loop-less : tie.Need-loop-smaller invariant-loop decreases-loop
+loop-less : tie.Need-loop-i-smaller invariant-loop-i decreases-loop-i
 loop-less c = search rules
 
-loop-again : tie.Need-loop-preserved invariant-loop decreases-loop
+loop-again : tie.Need-loop-i-preserved invariant-loop-i decreases-loop-i
 loop-again c =
-    let s = c.before.before.before.before.before in
-    let l = c.before.before.before.loop in (
+    let s = c in
+    let l = c.loop-i in (
       search rules,
       simp length-set l.invariant.1,
       record {
@@ -84,18 +84,18 @@ loop-again c =
       },
     )
 
-same_length : tie.Need-same-length invariant-loop decreases-loop
+same_length : tie.Need-shape_of-lots invariant-loop-i decreases-loop-i
 same_length c = omega arith
 
-returns : tie.Need-returns invariant-loop decreases-loop
-returns c = let e : c.before.loop.i ≡ c.before.before.before.args.count = omega arith in rw e at c.before.loop.invariant.2
+returns : tie.Need-returns invariant-loop-i decreases-loop-i
+returns c = let e : c.loop-i.i ≡ c.args.count = omega arith in rw e at c.loop-i.invariant.2
 
-pub spread-spec : {M : Type 1} → statement M
-spread-spec =
+pub spread_spec : {M : Type 1} → statement M
+spread_spec =
     tie.close
     (tie.spec
-    invariant-loop
-    decreases-loop
+    invariant-loop-i
+    decreases-loop-i
     loop-holds
     mul-part-of
     slice-read-part-of

@@ -5,17 +5,17 @@ use borrow.Author.Tests.{lt-leb}
 use Rattle.figures.proofs.allowed.Statement.{statement}
 use Rattle.figures.proofs.allowed.Tie as tie
 
-returns : tie.Need-returns
-returns c = simp (ne_eqb _ _ c.if1.true)
+returns : tie.Need-returns-then-decimals-form
+returns c = simp (ne_eqb _ _ c.if-decimals-form.true)
 
-returns-2 : tie.Need-returns-2
-returns-2 c = simp (eq-eqb _ _ c.before.before.if1.false, lt-leb _ _ c.if2.true)
+returns-2 : tie.Need-returns-then-number-form
+returns-2 c = simp (eq-eqb _ _ c.if-decimals-form.false, lt-leb _ _ c.if-number-form.true)
 
-returns-3 : tie.Need-returns-3
-returns-3 c = simp (eq-eqb _ _ c.before.before.before.before.if1.false, le-leb _ _ c.before.before.if2.false, lt-leb _ _ c.if3.true)
+returns-3 : tie.Need-returns-then-form-number
+returns-3 c = simp (eq-eqb _ _ c.if-decimals-form.false, le-leb _ _ c.if-number-form.false, lt-leb _ _ c.if-form-number.true)
 
-returns-4 : tie.Need-returns-4
-returns-4 c = simp (eq-eqb _ _ c.before.before.before.before.if1.false, le-leb _ _ c.before.before.if2.false, le-leb _ _ c.if3.false)
+returns-4 : tie.Need-returns
+returns-4 c = simp (eq-eqb _ _ c.if-decimals-form.false, le-leb _ _ c.if-number-form.false, le-leb _ _ c.if-form-number.false)
 
-pub allowed-spec : {M : Type 1} → statement M
-allowed-spec = tie.close (tie.spec returns returns-2 returns-3 returns-4)
+pub allowed_spec : {M : Type 1} → statement M
+allowed_spec = tie.close (tie.spec returns returns-2 returns-3 returns-4)

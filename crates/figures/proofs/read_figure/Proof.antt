@@ -23,34 +23,34 @@ refused_as form (Number n d) (inr e) = let z : ◌≡◌ {A = ℕ} 0 2 = e in ab
 refused_as form Comma h = refl
 refused_as form Malformed h = refl
 
-read-written-requires : tie.Need-read-written-requires
+read-written-requires : tie.Need-read_written-written-requires
 read-written-requires c κs = search rules
 
-enum-known-written : tie.Need-enum-known-written
+enum-known-written : tie.Need-enum_known-written
 enum-known-written c = search rules
 
 refused-requires : tie.Need-refused-requires
 refused-requires c κs = search rules
 
-returns : tie.Need-returns
+returns : tie.Need-returns-in_default
 returns c =
-    let r = c.before.before in
-    let a = r.before.before.args in
+    let r = c in
+    let a = r.args in
     c.refused.ensures
-    ∙ sym (asked_by a.form a.v.now r.read_written.result r.read_written.ensures ∙ refused_as a.form r.read_written.result c.before.match.keys2)
+    ∙ sym (asked_by a.form a.v.now r.read_written-written.result r.read_written-written.ensures ∙ refused_as a.form r.read_written-written.result c.in_default.in_default-own.keys2)
 
 allowed-requires : tie.Need-allowed-requires
 allowed-requires c κs = search rules
 
-returns-2 : tie.Need-returns-2
+returns-2 : tie.Need-returns
 returns-2 c =
-    let r = c.before.before.before.before in
-    let a = r.before.before.args in
+    let r = c in
+    let a = r.args in
     c.allowed.ensures
-    ∙ sym (asked_by a.form a.v.now r.read_written.result r.read_written.ensures ∙ ap (asked a.form) c.before.before.written.given.1)
+    ∙ sym (asked_by a.form a.v.now r.read_written-written.result r.read_written-written.ensures ∙ ap (asked a.form) c.in-Number.is)
 
-pub read-figure-spec : {M : Type 1} → statement M
-read-figure-spec =
+pub read_figure_spec : {M : Type 1} → statement M
+read_figure_spec =
     tie.close
     (tie.spec
     read-written-requires

@@ -23,51 +23,51 @@ held : (v : List ℕ) (n : ℕ) → written_of v ≡ Number n 0 → asked held_f
 unfolding figure_of
 held v n e = ap (asked held_form) (sym e)
 
-tested : (c : tie.Else1) → may_be_whole c.before.before.before.args.v.now ≡ true
-tested c = sym c.before.may-be-whole.ensures ∙ affirmed c.before.may-be-whole.result c.if1.false
+tested : (c : tie.Else-not-may_be_whole) → may_be_whole c.args.v.now ≡ true
+tested c = sym c.may_be_whole.ensures ∙ c.if-not-may_be_whole.false
 
-may-be-whole-requires : tie.Need-may-be-whole-requires
+may-be-whole-requires : tie.Need-may_be_whole-requires
 may-be-whole-requires c κs = search rules
 
-no-value-requires : tie.Need-no-value-requires
+no-value-requires : tie.Need-no_value-requires
 no-value-requires c κs = search rules
 
-returns : tie.Need-returns
+returns : tie.Need-returns-then-not-may_be_whole
 returns c =
-    let w = c.before.before in
-    let v = w.before.before.args.v.now in
+    let w = c in
+    let v = w.args.v.now in
     c.no_value.ensures
-    ∙ none_held v (λ may e. false≢true (sym (sym w.may-be-whole.ensures ∙ negated w.may-be-whole.result c.before.if1.true) ∙ may))
+    ∙ none_held v (λ may e. false≢true (sym (sym w.may_be_whole.ensures ∙ c.if-not-may_be_whole.true) ∙ may))
 
-read-run-requires : tie.Need-read-run-requires
+read-run-requires : tie.Need-read_run-run-requires
 read-run-requires c κs =
-    let v = c.before.before.before.args.v.now in
+    let v = c.args.v.now in
     let most = tested_most v (tested c) in
     (omega (arith, most), omega (arith, at_most (19 - length v) 0 (omega arith)))
 
-no-value-requires-2 : tie.Need-no-value-requires-2
+no-value-requires-2 : tie.Need-no_value-requires-then-run-v
 no-value-requires-2 c κs = search rules
 
-returns-2 : tie.Need-returns-2
+returns-2 : tie.Need-returns-then-run-v
 returns-2 c =
-    let r = c.before.before.before in
-    let v = r.before.before.before.before.args.v.now in
-    c.no-value2.ensures ∙ none_held v (λ may e. c.before.if2.true (r.read-run.ensures.0 ∙ e))
+    let r = c in
+    let v = r.args.v.now in
+    c.no_value-then-run-v.ensures ∙ none_held v (λ may e. c.if-run-v.true (r.read_run-run.ensures.0 ∙ e))
 
 allowed-requires : tie.Need-allowed-requires
 allowed-requires c κs = search rules
 
-returns-3 : tie.Need-returns-3
+returns-3 : tie.Need-returns
 returns-3 c =
-    let r = c.before.before.before in
-    let k = r.before in
-    let v = k.before.before.before.args.v.now in
-    let number = r.read-run.ensures.1 in
-    let written = tested_whole v (tested k) (sym r.read-run.ensures.0 ∙ c.before.if2.false) in
-    c.allowed.ensures ∙ held v r.read-run.result.number (written ∙ ap (λ (n : ℕ). Number n 0) (sym number))
+    let r = c in
+    let k = r in
+    let v = k.args.v.now in
+    let number = r.read_run-run.ensures.1 in
+    let written = tested_whole v (tested c.before.before.before.before) (sym r.read_run-run.ensures.0 ∙ c.if-run-v.false) in
+    c.allowed.ensures ∙ held v r.read_run-run.result.number (written ∙ ap (λ (n : ℕ). Number n 0) (sym number))
 
-pub read-held-spec : {M : Type 1} → statement M
-read-held-spec =
+pub read_held_spec : {M : Type 1} → statement M
+read_held_spec =
     tie.close
     (tie.spec
     may-be-whole-requires

@@ -17,109 +17,109 @@ use Rattle.figures.proofs.read_opening.Statement.{statement}
 use Rattle.figures.proofs.read_opening.Tie as tie
 
 -- a value that has room for a stamp, and its place
-abbrev value : tie.Else1 → List ℕ
-value c = c.before.before.args.v.now
+abbrev value : tie.Else-v-lt-SIZE → List ℕ
+value c = c.args.v.now
 
-abbrev cut : tie.Else1 → ℕ
+abbrev cut : tie.Else-v-lt-SIZE → ℕ
 cut c = length (value c) - 14
 
-room : (c : tie.Else1) → cut c + 14 ≡ length (value c)
+room : (c : tie.Else-v-lt-SIZE) → cut c + 14 ≡ length (value c)
 room c = omega arith
 
-abbrev at-stamp : tie.After-read-stamp → tie.Else1
+abbrev at-stamp : tie.After-read_stamp → tie.Else-v-lt-SIZE
 at-stamp c = c.before.before
 
-abbrev at_pair : tie.After-read-pair → tie.Else1
-at_pair c = at-stamp c.before.before.before.before.before
+abbrev at_pair : tie.After-read_pair → tie.Else-v-lt-SIZE
+at_pair c = c.before.before.before.before
 
 -- what the stamp says
-stamp-read : (c : tie.After-read-stamp) (d : Digits) → c.read-stamp.result ≡ d → let e = at-stamp c in stamp_in (drop (cut e) (value e)) ≡ d
-stamp-read c d h = let e = at-stamp c in sym (c.read-stamp.ensures ∙ ap stamp_in (to_end (value e) (cut e))) ∙ h
+stamp-read : (c : tie.After-read_stamp) (d : Digits) → c.read_stamp.result ≡ d → let e = at-stamp c in stamp_in (drop (cut e) (value e)) ≡ d
+stamp-read c d h = let e = at-stamp c in sym (c.read_stamp.ensures ∙ ap stamp_in (to_end (value e) (cut e))) ∙ h
 
 -- what the price and the lots say
-pair_read : (c : tie.After-read-pair) (p : Pair) → c.read_pair.result ≡ p → let e = at_pair c in pair_of (take (cut e) (value e)) ≡ p
+pair_read : (c : tie.After-read_pair) (p : Pair) → c.read_pair.result ≡ p → let e = at_pair c in pair_of (take (cut e) (value e)) ≡ p
 pair_read c p h = sym c.read_pair.ensures ∙ h
 
-no-opening-requires : tie.Need-no-opening-requires
+no-opening-requires : tie.Need-no_opening-requires
 no-opening-requires c κs = search rules
 
-returns : tie.Need-returns
+returns : tie.Need-returns-then-v-lt-SIZE
 returns c =
-    let a = c.before.before.before.args in
-    c.no-opening.ensures ∙ sym (too_short a.bought a.v.now (omega arith))
+    let a = c.args in
+    c.no_opening.ensures ∙ sym (too_short a.bought a.v.now (omega arith))
 
-sub-cut : tie.Need-overflow-sub-cut
+sub-cut : tie.Need-overflow_sub-cut
 sub-cut c = search rules
 
-sub-read-stamp : tie.Need-overflow-sub-read-stamp
+sub-read-stamp : tie.Need-slice_bounds-read_stamp-count
 sub-read-stamp c = search rules
 
-part-read-stamp-start : tie.Need-slice-bounds-read-stamp-start
+part-read-stamp-start : tie.Need-slice_bounds-read_stamp-start
 part-read-stamp-start c = search rules
 
-part-read-stamp-end : tie.Need-slice-bounds-read-stamp-end
+part-read-stamp-end : tie.Need-slice_bounds-read_stamp-end
 part-read-stamp-end c = search rules
 
-read-stamp-requires : tie.Need-read-stamp-requires
+read-stamp-requires : tie.Need-read_stamp-requires
 read-stamp-requires c κs = search rules
 
-enum-known-made : tie.Need-enum-known-made
+enum-known-made : tie.Need-enum_known-made
 enum-known-made c = search rules
 
-enum_told : tie.Need-enum-told
+enum_told : tie.Need-enum_told-1
 enum_told c = search rules
 
-no-opening-requires-2 : tie.Need-no-opening-requires-2
+no-opening-requires-2 : tie.Need-no_opening-requires-in_default
 no-opening-requires-2 c κs = search rules
 
-returns-2 : tie.Need-returns-2
+returns-2 : tie.Need-returns-in_default
 returns-2 c =
-    let r = c.before.before.before in
-    let e = at-stamp r in
-    c.no-opening2.ensures ∙ sym (no_stamp _ (value e) (cut e) (room e) (stamp-read r Other c.before.enum_told.given.1))
+    let r = c in
+    let e = at-stamp c.before.before in
+    c.no_opening-in_default.ensures ∙ sym (no_stamp _ (value e) (cut e) (room e) (stamp-read c.before.before Other c.in_default.is))
 
-slice-aggregate-read-pair : tie.Need-slice-aggregate-read-pair
+slice-aggregate-read-pair : tie.Need-slice_bounds-read_pair-end
 slice-aggregate-read-pair c =
-    let e = at-stamp c.before.before.before.before in
+    let e = at-stamp c.before in
     sym (length-take-le (cut e) (value e) (omega arith))
 
-read-pair-requires : tie.Need-read-pair-requires
+read-pair-requires : tie.Need-read_pair-requires
 read-pair-requires c κs = search rules
 
-enum-known-price : tie.Need-enum-known-price
+enum-known-price : tie.Need-enum_known-price
 enum-known-price c = search rules
 
-enum-told-2 : tie.Need-enum-told-2
+enum-told-2 : tie.Need-enum_told-in_default-read_pair
 enum-told-2 c = search rules
 
-no-opening-requires-3 : tie.Need-no-opening-requires-3
+no-opening-requires-3 : tie.Need-no_opening-requires-in_default-read_pair
 no-opening-requires-3 c κs = search rules
 
-returns-3 : tie.Need-returns-3
+returns-3 : tie.Need-returns-in_default-read_pair
 returns-3 c =
-    let r = c.before.before.before in
-    let e = at_pair r in
-    c.no-opening3.ensures ∙ sym (no_pair _ (value e) (cut e) (room e) (pair_read r NoPair c.before.enum-told2.given.1))
+    let r = c in
+    let e = at_pair c.before.before in
+    c.no_opening-in_default-read_pair.ensures ∙ sym (no_pair _ (value e) (cut e) (room e) (pair_read c.before.before NoPair c.in_default-read_pair.is))
 
-trade-of-requires : tie.Need-trade-of-requires
+trade-of-requires : tie.Need-trade_of-requires
 trade-of-requires c κs = search rules
 
-returns-4 : tie.Need-returns-4
+returns-4 : tie.Need-returns
 returns-4 c =
-    let k = c.before.before in
-    let r = k.before.before in
-    let m = r.before.before.before in
-    let e = at_pair r in
-    let bought = e.before.before.args.bought in
+    let k = c in
+    let r = k in
+    let m = r in
+    let e = at_pair c.before.before in
+    let bought = e.args.bought in
     let both = k.price.given.0 in
-    let trade : c.trade-of.result ≡ trade_of bought both.0 both.1.1.0 m.made.given.0.0 = c.trade-of.ensures in
+    let trade : c.trade_of.result ≡ trade_of bought both.0 both.1.1.0 m.in-Number.made = c.trade_of.ensures in
     sym (all_read bought (value e) (cut e) _ _ _ _ (room e)
-    (pair_read r (Both _ _ _) k.price.given.1)
-    (stamp-read m.before.before (Number _) m.made.given.1)
+    (pair_read c.before.before (Both _ _ _) k.in-Both.is)
+    (stamp-read c.before.before.before.before (Number _) m.in-Number.is)
     ∙ ap (λ (t : Trade). Made t both.1.0) (sym trade))
 
-pub read-opening-spec : {M : Type 1} → statement M
-read-opening-spec =
+pub read_opening_spec : {M : Type 1} → statement M
+read_opening_spec =
     tie.close
     (tie.spec
     no-opening-requires

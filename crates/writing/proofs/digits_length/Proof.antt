@@ -9,32 +9,32 @@ use Rattle.laws.specs.Digits.{digits_one, digits_more, digits_length_20}
 use Rattle.writing.proofs.digits_length.Statement.{statement}
 use Rattle.writing.proofs.digits_length.Tie as tie
 
-abbrev invariant-loop : tie.invariant-loop
-invariant-loop n rest₀ count₀ rest count = count + length (digits rest) ≡ 1 + length (digits n)
+abbrev invariant-loop-rest : tie.invariant-loop-rest
+invariant-loop-rest n rest₀ count₀ rest count = count + length (digits rest) ≡ 1 + length (digits n)
 
-abbrev decreases-loop : tie.decreases-loop
-decreases-loop n rest₀ count₀ rest count = rest
+abbrev decreases-loop-rest : tie.decreases-loop-rest
+decreases-loop-rest n rest₀ count₀ rest count = rest
 
-loop-holds : tie.Need-loop-init invariant-loop decreases-loop
+loop-holds : tie.Need-loop-rest-init invariant-loop-rest decreases-loop-rest
 loop-holds c = omega arith
 
-add-count : tie.Need-overflow-add-count invariant-loop decreases-loop
-add-count c = omega (arith, digits_length_20 c.before.before.args.n c.before.before.ranges.n.fits)
+add-count : tie.Need-overflow_add-count invariant-loop-rest decreases-loop-rest
+add-count c = omega (arith, digits_length_20 c.args.n c.ranges.n.fits)
 
-loop-less : tie.Need-loop-smaller invariant-loop decreases-loop
+loop-less : tie.Need-loop-rest-smaller invariant-loop-rest decreases-loop-rest
 loop-less c = omega arith
 
-loop-again : tie.Need-loop-preserved invariant-loop decreases-loop
+loop-again : tie.Need-loop-rest-preserved invariant-loop-rest decreases-loop-rest
 loop-again c =
-    let rest = c.before.loop.rest in
-    omega (arith, simp length-append at (ap length (digits_more rest c.loop-test.true)))
+    let rest = c.loop-rest.rest in
+    omega (arith, simp length-append at (ap length (digits_more rest c.loop-rest-test.true)))
 
-returns : tie.Need-returns invariant-loop decreases-loop
+returns : tie.Need-returns invariant-loop-rest decreases-loop-rest
 returns c =
-    let n = c.before.before.args.n in
-    let rest = c.before.loop.rest in
-    omega (arith, ap length (digits_one rest c.loop-test.false), digits_length_20 n c.before.before.ranges.n.fits)
+    let n = c.args.n in
+    let rest = c.loop-rest.rest in
+    omega (arith, ap length (digits_one rest c.loop-rest-test.false), digits_length_20 n c.ranges.n.fits)
 
-pub digits-length-spec : {M : Type 1} → statement M
-digits-length-spec =
-    tie.close (tie.spec invariant-loop decreases-loop loop-holds add-count loop-less loop-again returns)
+pub digits_length_spec : {M : Type 1} → statement M
+digits_length_spec =
+    tie.close (tie.spec invariant-loop-rest decreases-loop-rest loop-holds add-count loop-less loop-again returns)

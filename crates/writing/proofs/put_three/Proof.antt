@@ -6,26 +6,26 @@ use Rattle.writing.specs.Written.{join}
 use Rattle.writing.proofs.put_three.Statement.{statement}
 use Rattle.writing.proofs.put_three.Tie as tie
 
-put-byte-requires : tie.Need-put-byte-requires
+put-byte-requires : tie.Need-put_byte-second-requires
 put-byte-requires c κs = search rules
 
-put-byte-requires-2 : tie.Need-put-byte-requires-2
+put-byte-requires-2 : tie.Need-put_byte-third-requires
 put-byte-requires-2 c κs = search rules
 
-put-byte-requires-3 : tie.Need-put-byte-requires-3
+put-byte-requires-3 : tie.Need-put_byte-requires
 put-byte-requires-3 c κs = search rules
 
-same_length : tie.Need-same-length
+same_length : tie.Need-shape_of-out
 same_length c = search rules
 
 returns : tie.Need-returns
 returns c =
-    let third = c.before.before in
-    let second = third.before.before.before.before in
-    let first = second.before.before.before.before in
-    join (join first.put_byte.ensures second.put-byte2.ensures (omega arith)) third.put-byte3.ensures (omega arith)
+    let third = c in
+    let second = third in
+    let first = second in
+    join (join first.put_byte-second.ensures second.put_byte-third.ensures (omega arith)) third.put_byte.ensures (omega arith)
 
-pub put-three-spec : {M : Type 1} → statement M
-put-three-spec =
+pub put_three_spec : {M : Type 1} → statement M
+put_three_spec =
     tie.close
     (tie.spec put-byte-requires put-byte-requires-2 put-byte-requires-3 same_length returns)

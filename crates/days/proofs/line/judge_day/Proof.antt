@@ -1,7 +1,7 @@
 -- `days::line::judge_day` meets its contract, by its tests.
 -- Assumes nothing.
 use borrow.Author.Rules.{rules}
-use borrow.Author.Tests.{eq-eqb, ne_eqb, not_true, not_false}
+use borrow.Author.Tests.{eq-eqb, ne_eqb, not-true, not-false}
 use mathlib.Core.Path.{◌≡◌, sym, ◌∙◌}
 use Prim.Native.Nat.{ℕ}
 use mathlib.Core.Bool.{true, false}
@@ -44,7 +44,7 @@ returns-3 c =
     let m = c.before in
     let e = m.before in
     let a = e.before.before.args in
-    other-mark a.price a.interest a.x a.limit e.before.if1.false e.if2.false (sym m.marks.ensures ∙ not_true _ c.if3.true)
+    other-mark a.price a.interest a.x a.limit e.before.if1.false e.if2.false (sym m.marks.ensures ∙ not-true _ c.if3.true)
 
 mark-of-requires : tie.Need-mark-of-requires
 mark-of-requires c κs = search rules
@@ -54,7 +54,7 @@ returns-4 c =
     let m = c.before.before in
     let e = m.before in
     let a = e.before.before.args in
-    good a.price a.interest a.x a.limit c.mark_of.result c.mark_of.ensures e.before.if1.false e.if2.false (sym m.marks.ensures ∙ not_false _ c.before.if3.false)
+    good a.price a.interest a.x a.limit c.mark_of.result c.mark_of.ensures e.before.if1.false e.if2.false (sym m.marks.ensures ∙ not-false _ c.before.if3.false)
 
 pub judge-day-spec : {M : Type 1} → statement M
 judge-day-spec =

@@ -5,7 +5,7 @@ use mathlib.Core.Path.{◌≡◌, sym, ap, ◌∙◌}
 use native.Mathlib.Omega.{arith}
 use mathlib.Core.Bool.{Bool}
 use lib.ListN.{length-take}
-use borrow.Author.Tests.{not_true, not_false}
+use borrow.Author.Tests.{not-true, not-false}
 use Rattle.days.specs.Day.{is_mark, limit_of}
 use Rattle.rules.specs.Figures.{up_to}
 use Rattle.days.specs.Parts.{cut_most, cut_front, cut_behind}
@@ -34,7 +34,7 @@ is-mark-requires c κs = search rules
 returns : tie.Need-returns
 returns c =
     let a = c.before.before.before.before.before.args in
-    tail_unmarked a.v.now a.price a.interest (marked c.before _ (not_true _ c.if1.true))
+    tail_unmarked a.v.now a.price a.interest (marked c.before _ (not-true _ c.if1.true))
 
 behind-requires : tie.Need-behind-requires
 behind-requires c κs = search rules
@@ -44,7 +44,7 @@ shared-slice-read-read-limit c =
     let e = c.before.before in
     let m = e.before in
     let f = m.before.before in
-    let there = mark_there f.before.before.args.v.now f.first-at.result (sym m.is-mark.ensures ∙ not_false _ e.if1.false) in
+    let there = mark_there f.before.before.args.v.now f.first-at.result (sym m.is-mark.ensures ∙ not-false _ e.if1.false) in
     search rules
 
 read-limit-requires : tie.Need-read-limit-requires
@@ -58,7 +58,7 @@ returns-2 c =
     let a = f.before.before.args in
     c.read-limit.ensures
     ∙ ap (limit_of a.price a.interest _) (b.behind.ensures ∙ cut_behind " " a.v.now f.first-at.result f.first-at.ensures)
-    ∙ tail_marked a.v.now a.price a.interest (marked e.before _ (not_false _ e.if1.false))
+    ∙ tail_marked a.v.now a.price a.interest (marked e.before _ (not-false _ e.if1.false))
 
 pub read-tail-spec : {M : Type 1} → statement M
 read-tail-spec =

@@ -21,29 +21,29 @@ told : (v : List ℕ) (q : Paired v) → PairRead v q.price q.places q.lots
 told v q = pair_read v q.price q.places q.lots q.read
 
 -- once the price was read
-module _ (c : tie.After-price-again) where
+module _ (c : tie.After-price_again-front) where
   abbrev value : List ℕ
-  value = c.before.before.before.args.v.now
+  value = c.args.v.now
 
   abbrev cut : ℕ
-  cut = c.before.before.before.args.cut
+  cut = c.args.cut
 
   abbrev pair : List ℕ
   pair = take cut value
 
   abbrev blank : ℕ
-  blank = c.price-again.result.blank
+  blank = c.price_again-front.result.blank
 
   read : Paired pair
-  read = c.before.before.before.requires.0
+  read = c.requires.0
 
   stamp : get_or value cut 0 ≡ code " "
-  stamp = eqb-true _ _ c.before.before.before.requires.1
+  stamp = eqb-true _ _ c.requires.1
 
-  same : (c.price-again.result.price ≡ read.price) × (blank ≡ length (up_to_blank pair))
+  same : (c.price_again-front.result.price ≡ read.price) × (blank ≡ length (up_to_blank pair))
   same =
-      let e = c.price-again.ensures in
-      let s = pair_start pair read.price read.places read.lots c.price-again.result.price e.0 blank e.1 (told pair read) in
+      let e = c.price_again-front.ensures in
+      let s = pair_start pair read.price read.places read.lots c.price_again-front.result.price e.0 blank e.1 (told pair read) in
       (s.0, s.2)
 
   inside : (blank < length pair) × (length pair ≤ 16) × (length pair < length value)
@@ -66,16 +66,16 @@ module _ (c : tie.After-price-again) where
   after : length (after_blank pair) + blank + 1 ≡ length pair
   after = omega (arith, ap length (after_blank_lem pair blank same.1 inside.0), length-drop (blank + 1) pair, inside.0)
 
-slice-aggregate-price-again : tie.Need-slice-aggregate-price-preserved
+slice-aggregate-price-again : tie.Need-slice_bounds-price_again-end
 slice-aggregate-price-again c =
-    let s = c.before.before in
+    let s = c in
     let v = s.args.v.now in
     let end = blank_inside v s.args.cut (eqb-true _ _ s.requires.1) in
     sym (length-take-le s.args.cut v (omega (arith, end)))
 
-price-again-requires : tie.Need-price-again-requires
+price-again-requires : tie.Need-price_again-front-requires
 price-again-requires c κs =
-    let s = c.before.before in
+    let s = c in
     let v = take s.args.cut s.args.v.now in
     let q = s.requires.0 in
     let t = told v q in
@@ -88,41 +88,41 @@ price-again-requires c κs =
       read = front_start v q.price q.places t.inside t.price;
     }
 
-add-read-inside : tie.Need-overflow-add-read-inside
+add-read-inside : tie.Need-overflow_add-front
 add-read-inside c = let i = inside c.before in omega (arith, i.0, i.1)
 
-sub-read-inside : tie.Need-overflow-sub-read-inside
+sub-read-inside : tie.Need-slice_bounds-read_inside-count
 sub-read-inside c = let i = inside c.before in omega (arith, i.0, i.2)
 
-part-read-inside-start : tie.Need-slice-bounds-read-inside-start
+part-read-inside-start : tie.Need-slice_bounds-read_inside-start
 part-read-inside-start c = let i = inside c.before in omega (arith, i.0, i.2)
 
-part-read-inside-end : tie.Need-slice-bounds-read-inside-end
+part-read-inside-end : tie.Need-slice_bounds-read_inside-end
 part-read-inside-end c = search rules
 
-read-inside-requires : tie.Need-read-inside-requires
+read-inside-requires : tie.Need-read_inside-lots-requires
 read-inside-requires c κs =
-    let k = c.before.before in
-    let v = value k in
-    let from = blank k + 1 in
+    let k = c in
+    let v = value c.before.before in
+    let from = blank c.before.before + 1 in
     let rest = ap length (to_end v from) ∙ length-drop from v in
-    let digits = ap run (to_end v from) ∙ (lots k).0 in
-    let i = inside k in (
-      omega (arith, digits, rest, after k, i.2),
-      omega (arith, digits, after k, i.1),
+    let digits = ap run (to_end v from) ∙ (lots c.before.before).0 in
+    let i = inside c.before.before in (
+      omega (arith, digits, rest, after c.before.before, i.2),
+      omega (arith, digits, after c.before.before, i.1),
       omega (arith, at_most (19 - run (take (length v - from) (drop from v))) 0 (omega arith)),
     )
 
 returns : tie.Need-returns
 returns c =
-    let k = c.before.before.before in
-    let q = read k in
-    let number : c.read-inside.result.number ≡ q.lots =
-    c.read-inside.ensures.1 ∙ ap (run_number 0) (to_end (value k) (blank k + 1)) ∙ (lots k).1 in
-    (q.places, q.read ∙ ap (λ (p : ℕ). Both p q.places q.lots) (sym (same k).0) ∙ ap (λ (n : ℕ). Both k.price-again.result.price q.places n) (sym number))
+    let k = c in
+    let q = read c.before.before.before in
+    let number : c.read_inside-lots.result.number ≡ q.lots =
+    c.read_inside-lots.ensures.1 ∙ ap (run_number 0) (to_end (value c.before.before.before) (blank c.before.before.before + 1)) ∙ (lots c.before.before.before).1 in
+    (q.places, q.read ∙ ap (λ (p : ℕ). Both p q.places q.lots) (sym (same c.before.before.before).0) ∙ ap (λ (n : ℕ). Both k.price_again-front.result.price q.places n) (sym number))
 
-pub pair-again-spec : {M : Type 1} → statement M
-pair-again-spec =
+pub pair_again_spec : {M : Type 1} → statement M
+pair_again_spec =
     tie.close
     (tie.spec
     slice-aggregate-price-again

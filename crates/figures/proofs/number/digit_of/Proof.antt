@@ -5,14 +5,14 @@ use Rattle.figures.proofs.Runs.{digit_of_wrapped}
 use Rattle.figures.proofs.number.digit_of.Statement.{statement}
 use Rattle.figures.proofs.number.digit_of.Tie as tie
 
-cast-wrapping-sub-u64 : tie.Need-overflow-cast-wrapping-sub-u64
+cast-wrapping-sub-u64 : tie.Need-overflow_cast-wrapping_sub_u64
 cast-wrapping-sub-u64 c = search rules
 
-wrapping-sub-u64-requires : tie.Need-wrapping-sub-u64-requires
+wrapping-sub-u64-requires : tie.Need-wrapping_sub_u64-requires
 wrapping-sub-u64-requires c κs = search rules
 
 returns : tie.Need-returns
-returns c = digit_of_wrapped _ _ (search rules) (search rules) c.wrapping-sub-u64.ensures
+returns c = digit_of_wrapped _ _ (search rules) (search rules) c.wrapping_sub_u64.ensures
 
-pub digit-of-spec : {M : Type 1} → statement M
-digit-of-spec = tie.close (tie.spec cast-wrapping-sub-u64 wrapping-sub-u64-requires returns)
+pub digit_of_spec : {M : Type 1} → statement M
+digit_of_spec = tie.close (tie.spec cast-wrapping-sub-u64 wrapping-sub-u64-requires returns)

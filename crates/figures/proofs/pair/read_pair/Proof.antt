@@ -21,21 +21,21 @@ use Rattle.figures.proofs.pair.read_pair.Statement.{statement}
 use Rattle.figures.proofs.pair.read_pair.Tie as tie
 
 -- a figure stands at the start, and a blank follows it
-module _ (c : tie.After-known-told) where
+module _ (c : tie.In-Ends) where
   abbrev value : List ℕ
-  value = c.before.before.before.before.before.before.args.v.now
+  value = c.args.v.now
 
   abbrev price : ℕ
-  price = c.before.price.given.0.0
+  price = c.in-Ends.price
 
   abbrev places : ℕ
-  places = c.before.price.given.0.1.0
+  places = c.in-Ends.decimals
 
   abbrev blank : ℕ
-  blank = c.before.price.given.0.1.1.0
+  blank = c.in-Ends.blank
 
   told : (start_of value ≡ Ends price places blank) × (get_or value blank 0 ≡ code " ")
-  told = front_told value price places blank (sym c.before.before.before.read_front.ensures ∙ c.before.price.given.1)
+  told = front_told value price places blank (sym c.read_front.ensures ∙ c.in-Ends.is)
 
   inside : blank < length value
   inside = blank_inside value blank told.1
@@ -49,96 +49,96 @@ module _ (c : tie.After-known-told) where
 
 -- what the lots say
 lots_read :
-    (c : tie.After-read-lots) (d : Digits) → c.read_lots.result ≡ d →
-    let k = c.before.before.before in
+    (c : tie.After-read_lots) (d : Digits) → c.read_lots.result ≡ d →
+    let k = c in
     lots_of (figure_of traded_form (after_blank (value k))) ≡ d
 lots_read c d h =
-    let k = c.before.before.before in
+    let k = c in
     let v = value k in
     let from = blank k + 1 in
     let read : c.read_lots.result ≡ lots_of (figure_of traded_form (take (length v - from) (drop from v))) = c.read_lots.ensures in
     sym (read ∙ ap (λ (l : List ℕ). lots_of (figure_of traded_form l)) (to_end v from ∙ after_blank_lem v (blank k) (front k).0 (inside k))) ∙ h
 
-returns : tie.Need-returns
-returns c = let v = c.before.before.args.v.now in sym (no_pair v (λ p d n r. omega (arith, pair_short v p d n r, c.if1.true)))
+returns : tie.Need-returns-then-v-gt-LONGEST
+returns c = let v = c.args.v.now in sym (no_pair v (λ p d n r. omega (arith, pair_short v p d n r, c.if-v-gt-LONGEST.true)))
 
-read-front-requires : tie.Need-read-front-requires
+read-front-requires : tie.Need-read_front-requires
 read-front-requires c κs = search rules
 
-enum-known-price : tie.Need-enum-known-price
+enum-known-price : tie.Need-enum_known-price
 enum-known-price c = search rules
 
-enum_told : tie.Need-enum-told
+enum_told : tie.Need-enum_told-1
 enum_told c = search rules
 
-returns-2 : tie.Need-returns-2
+returns-2 : tie.Need-returns-in_default
 returns-2 c =
-    let s = c.before.before in
-    let v = s.before.before.before.args.v.now in
+    let s = c in
+    let v = s.args.v.now in
     sym (no_pair v (λ p d n r.
     let k = sym (before_blank_lem v (start_of v) p d (length (up_to_blank v)) (front_start v p d r.inside r.price) (at_blank v r.inside))
     ∙ sym s.read_front.ensures
-    ∙ c.enum_told.given.1 in
+    ∙ c.in_default.is in
     let z : ◌≡◌ {A = ℕ} 0 1 = cc in
     omega arith))
 
-returns-3 : tie.Need-returns-3
+returns-3 : tie.Need-returns-then-price-eq0
 returns-3 c =
-    let k = c.before in
-    sym (no_pair (value k) (λ p d n r. omega (arith, (same k p d n r).0, price_least p d r.range, c.if2.true)))
+    let k = c in
+    sym (no_pair (value k) (λ p d n r. omega (arith, (same k p d n r).0, price_least p d r.range, c.if-price-eq0.true)))
 
-add-read-lots : tie.Need-overflow-add-read-lots
+add-read-lots : tie.Need-overflow_add-blank
 add-read-lots c = omega (arith, inside c.before)
 
-sub-read-lots : tie.Need-overflow-sub-read-lots
+sub-read-lots : tie.Need-slice_bounds-read_lots-count
 sub-read-lots c = omega (arith, inside c.before)
 
-part-read-lots-start : tie.Need-slice-bounds-read-lots-start
+part-read-lots-start : tie.Need-slice_bounds-read_lots-start
 part-read-lots-start c = omega (arith, inside c.before)
 
-part-read-lots-end : tie.Need-slice-bounds-read-lots-end
+part-read-lots-end : tie.Need-slice_bounds-read_lots-end
 part-read-lots-end c = search rules
 
-read-lots-requires : tie.Need-read-lots-requires
+read-lots-requires : tie.Need-read_lots-requires
 read-lots-requires c κs =
-    let k = c.before.before in
+    let k = c in
     let v = value k in
     let from = blank k + 1 in
-    omega (arith, ap length (to_end v from) ∙ length-drop from v, k.before.before.before.before.if1.false)
+    omega (arith, ap length (to_end v from) ∙ length-drop from v, k.if-v-gt-LONGEST.false)
 
-enum-known-lots : tie.Need-enum-known-lots
+enum-known-lots : tie.Need-enum_known-lots
 enum-known-lots c = search rules
 
-enum-told-2 : tie.Need-enum-told-2
+enum-told-2 : tie.Need-enum_told-in_default-read_lots
 enum-told-2 c = search rules
 
-returns-4 : tie.Need-returns-4
+returns-4 : tie.Need-returns-in_default-read_lots
 returns-4 c =
-    let f = c.before.before in
-    let k = f.before.before.before in
-    let none = lots_read f Other c.enum-told2.given.1 in
+    let f = c in
+    let k = f in
+    let none = lots_read c.before Other c.in_default-read_lots.is in
     sym (no_pair (value k) (λ p d n r.
     let e = sym (ap lots_of r.lots) ∙ none in
     let z : ◌≡◌ {A = ℕ} 0 1 = cc in
     omega arith))
 
-returns-5 : tie.Need-returns-5
+returns-5 : tie.Need-returns
 returns-5 c =
-    let f = c.before.before.before in
-    let e = f.before.before in
-    let k = e.before in
+    let f = c in
+    let e = f in
+    let k = e in
     let v = value k in
     let written = (front k).1 in
     sym (read_pair v (price k) (places k) _
     (record {
       inside = omega (arith, (front k).0, inside k);
       price = written;
-      range = price_in (up_to_blank v) (price k) (places k) written (omega (arith, e.if2.false));
-      lots = lots_told (figure_of traded_form (after_blank v)) _ (lots_read f (Lots _) c.before.lots.given.1);
+      range = price_in (up_to_blank v) (price k) (places k) written (omega (arith, e.if-price-eq0.false));
+      lots = lots_told (figure_of traded_form (after_blank v)) _ (lots_read c.before (Lots _) c.in-Number.is);
     }))
 
-pub read-pair-spec : {M : Type 1} → statement M
-read-pair-spec =
+pub read_pair_spec : {M : Type 1} → statement M
+read_pair_spec =
     tie.close
     (tie.spec
     returns

@@ -9,44 +9,44 @@ use Rattle.figures.proofs.stamp.is_date.Tie as tie
 
 -- a year and a month that are such: the day tells
 before-day :
-    (c : tie.Else3) →
-    let a = c.before.before.before.args in
+    (c : tie.Else-month-gt12) →
+    let a = c.args in
     is_date (2_000 + a.y) a.month a.day ≡ (leb 1 a.day && leb a.day (days_in (2_000 + a.y) a.month))
 before-day c =
-    let a = c.before.before.before.args in
+    let a = c.args in
     simp
     (le-leb 2_000 (2_000 + a.y) (omega arith), le-leb (2_000 + a.y) 2_099 (omega arith), le-leb 1 a.month (omega arith), le-leb a.month 12 (omega arith))
 
-returns : tie.Need-returns
+returns : tie.Need-returns-then-y-gt99
 returns c =
-    let a = c.before.args in
+    let a = c.args in
     simp (le-leb 2_000 (2_000 + a.y) (omega arith), lt-leb (2_000 + a.y) 2_099 (omega arith))
 
-returns-2 : tie.Need-returns-2
+returns-2 : tie.Need-returns-then-month-lt1
 returns-2 c =
-    let a = c.before.before.args in
+    let a = c.args in
     simp (le-leb 2_000 (2_000 + a.y) (omega arith), le-leb (2_000 + a.y) 2_099 (omega arith), lt-leb 1 a.month (omega arith))
 
-returns-3 : tie.Need-returns-3
+returns-3 : tie.Need-returns-then-month-gt12
 returns-3 c =
-    let a = c.before.before.before.args in
+    let a = c.args in
     simp
     (le-leb 2_000 (2_000 + a.y) (omega arith), le-leb (2_000 + a.y) 2_099 (omega arith), le-leb 1 a.month (omega arith), lt-leb a.month 12 (omega arith))
 
-returns-4 : tie.Need-returns-4
-returns-4 c = sym (before-day c.before ∙ simp (lt-leb 1 c.before.before.before.before.args.day (omega arith)))
+returns-4 : tie.Need-returns-then-day-lt1
+returns-4 c = sym (before-day c.before ∙ simp (lt-leb 1 c.args.day (omega arith)))
 
-returns-5 : tie.Need-returns-5
+returns-5 : tie.Need-returns-then-day-le-SHORTEST
 returns-5 c =
-    let a = c.before.before.before.before.before.args in
-    let few : a.day ≤ days_in (2_000 + a.y) a.month = omega (arith, c.if5.true, days_least (2_000 + a.y) a.month) in
+    let a = c.args in
+    let few : a.day ≤ days_in (2_000 + a.y) a.month = omega (arith, c.if-day-le-SHORTEST.true, days_least (2_000 + a.y) a.month) in
     sym (before-day c.before.before ∙ simp (le-leb 1 a.day (omega arith), le-leb a.day (days_in (2_000 + a.y) a.month) few))
 
-days-in-requires : tie.Need-days-in-requires
+days-in-requires : tie.Need-days_in-requires
 days-in-requires c κs = search rules
 
-returns-6 : tie.Need-returns-6
-returns-6 c = sym (before-day c.before.before.before ∙ simp (le-leb 1 c.before.before.before.before.before.before.args.day (omega arith), c.days-in.ensures))
+returns-6 : tie.Need-returns
+returns-6 c = sym (before-day c.before.before.before ∙ simp (le-leb 1 c.args.day (omega arith), c.days_in.ensures))
 
-pub is-date-spec : {M : Type 1} → statement M
-is-date-spec = tie.close (tie.spec returns returns-2 returns-3 returns-4 returns-5 days-in-requires returns-6)
+pub is_date_spec : {M : Type 1} → statement M
+is_date_spec = tie.close (tie.spec returns returns-2 returns-3 returns-4 returns-5 days-in-requires returns-6)

@@ -5,31 +5,31 @@ use Rattle.figures.proofs.Fronts.{blank_inside, before_blank_lem, no_blank}
 use Rattle.figures.proofs.start.before_blank.Statement.{statement}
 use Rattle.figures.proofs.start.before_blank.Tie as tie
 
-enum-known-start : tie.Need-enum-known-start
+enum-known-start : tie.Need-enum_known-start
 enum-known-start c = search rules
 
-enum_told : tie.Need-enum-told
+enum_told : tie.Need-enum_told-1
 enum_told c = search rules
 
-returns : tie.Need-returns
+returns : tie.Need-returns-in_default
 returns c = search rules
 
-returns-2 : tie.Need-returns-2
+returns-2 : tie.Need-returns-then-v-end
 returns-2 c =
-    let k = c.before.before in
-    sym (no_blank _ _ _ _ _ k.start.given.1 (λ b. omega (arith, blank_inside k.before.before.args.v.now k.start.given.0.1.1.0 b, c.if1.true)))
+    let k = c in
+    sym (no_blank _ _ _ _ _ k.in-Ends.is (λ b. omega (arith, blank_inside k.args.v.now k.in-Ends.end b, c.if-v-end.true)))
 
-shared-slice-read-if2 : tie.Need-shared-slice-read-if2
+shared-slice-read-if2 : tie.Need-bounds-v-end
 shared-slice-read-if2 c = search rules
 
-returns-3 : tie.Need-returns-3
-returns-3 c = sym (no_blank _ _ _ _ _ c.before.before.before.before.start.given.1 c.if2.true)
+returns-3 : tie.Need-returns-then-v-end-ne32
+returns-3 c = sym (no_blank _ _ _ _ _ c.in-Ends.is c.if-v-end-ne32.true)
 
-returns-4 : tie.Need-returns-4
-returns-4 c = sym (before_blank_lem _ _ _ _ _ c.before.before.before.before.start.given.1 c.if2.false)
+returns-4 : tie.Need-returns
+returns-4 c = sym (before_blank_lem _ _ _ _ _ c.in-Ends.is c.if-v-end-ne32.false)
 
-pub before-blank-spec : {M : Type 1} → statement M
-before-blank-spec =
+pub before_blank_spec : {M : Type 1} → statement M
+before_blank_spec =
     tie.close
     (tie.spec
     enum-known-start

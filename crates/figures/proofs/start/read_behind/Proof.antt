@@ -24,75 +24,75 @@ something i n (x ∷ v) h = refl
 
 -- what the digits behind the point say
 digits-read :
-    (c : tie.After-read-run) →
-    let a = c.before.before.before.before.before.before.args in
-    behind a.size a.n a.v.now ≡ pointed a.size c.read-run.result.size c.read-run.result.number
+    (c : tie.After-read_run-run) →
+    let a = c.args in
+    behind a.size a.n a.v.now ≡ pointed a.size c.read_run-run.result.size c.read_run-run.result.number
 digits-read c =
-    let a = c.before.before.before.before.before.before.args in
+    let a = c.args in
     let v = a.v.now in
     something a.size a.n v (omega arith)
-    ∙ simp (eq-eqb _ _ c.before.before.if2.false)
+    ∙ simp (eq-eqb _ _ c.if-v-ne46.false)
     (ap₂ (pointed a.size)
-    (sym (c.read-run.ensures.0 ∙ ap run (to_end v 1)))
-    (sym (c.read-run.ensures.1 ∙ ap (run_number a.n) (to_end v 1))))
+    (sym (c.read_run-run.ensures.0 ∙ ap run (to_end v 1)))
+    (sym (c.read_run-run.ensures.1 ∙ ap (run_number a.n) (to_end v 1))))
 
-few : (c : tie.After-read-run) → c.read-run.result.size ≤ 16
+few : (c : tie.After-read_run-run) → c.read_run-run.result.size ≤ 16
 few c =
-    let v = c.before.before.before.before.before.before.args.v.now in
-    let e = c.read-run.ensures.0 ∙ ap run (to_end v 1) in
+    let v = c.args.v.now in
+    let e = c.read_run-run.ensures.0 ∙ ap run (to_end v 1) in
     omega (arith, e, run_most (drop 1 v), length-drop 1 v)
 
-returns : tie.Need-returns
-returns c = let a = c.before.before.args in sym (nothing a.size a.n a.v.now c.if1.true)
+returns : tie.Need-returns-then-v-eq0
+returns c = let a = c.args in sym (nothing a.size a.n a.v.now c.if-v-eq0.true)
 
-shared-slice-read-if2 : tie.Need-shared-slice-read-if2
+shared-slice-read-if2 : tie.Need-bounds-v-0
 shared-slice-read-if2 c = search rules
 
-returns-2 : tie.Need-returns-2
+returns-2 : tie.Need-returns-then-v-ne46
 returns-2 c =
-    let a = c.before.before.before.before.args in
-    sym (something a.size a.n a.v.now (omega arith) ∙ simp (ne_eqb _ _ c.if2.true))
+    let a = c.args in
+    sym (something a.size a.n a.v.now (omega arith) ∙ simp (ne_eqb _ _ c.if-v-ne46.true))
 
-sub-read-run : tie.Need-overflow-sub-read-run
+sub-read-run : tie.Need-slice_bounds-read_run-count
 sub-read-run c = search rules
 
-part-read-run-start : tie.Need-slice-bounds-read-run-start
+part-read-run-start : tie.Need-slice_bounds-read_run-start
 part-read-run-start c = search rules
 
-part-read-run-end : tie.Need-slice-bounds-read-run-end
+part-read-run-end : tie.Need-slice_bounds-read_run-end
 part-read-run-end c = search rules
 
-read-run-requires : tie.Need-read-run-requires
+read-run-requires : tie.Need-read_run-run-requires
 read-run-requires c κs =
-    let a = c.before.before.before.before.before.args in
+    let a = c.args in
     let v = a.v.now in
     let size = ap length (to_end v 1) ∙ length-drop 1 v in
     (omega (arith, size), omega (arith, at_most (19 - length (take (length v - 1) (drop 1 v))) a.size (omega (arith, size))))
 
-returns-3 : tie.Need-returns-3
-returns-3 c = sym (digits-read c.before.before ∙ simp (lt-leb 1 c.before.before.read-run.result.size (omega arith)))
+returns-3 : tie.Need-returns-then-run-eq0
+returns-3 c = sym (digits-read c.before.before ∙ simp (lt-leb 1 c.read_run-run.result.size (omega arith)))
 
-add-if4 : tie.Need-overflow-add-if4
+add-if4 : tie.Need-overflow_add-size
 add-if4 c = omega (arith, few c.before.before.before)
 
-returns-4 : tie.Need-returns-4
+returns-4 : tie.Need-returns-then-size-run-gt-MOST_DIGITS
 returns-4 c =
-    let r = c.before.before.before.before in
-    sym (digits-read r ∙ simp (le-leb 1 r.read-run.result.size (omega arith), lt-leb _ 7 c.if4.true))
+    let r = c in
+    sym (digits-read c.before.before.before.before ∙ simp (le-leb 1 r.read_run-run.result.size (omega arith), lt-leb _ 7 c.if-size-run-gt-MOST_DIGITS.true))
 
-add-t5 : tie.Need-overflow-add-t5
+add-t5 : tie.Need-overflow_add-result
 add-t5 c = search rules
 
-add-t12 : tie.Need-overflow-add-t12
+add-t12 : tie.Need-overflow_add-result-2
 add-t12 c = search rules
 
-returns-5 : tie.Need-returns-5
+returns-5 : tie.Need-returns
 returns-5 c =
-    let r = c.before.before.before.before.before in
-    sym (digits-read r ∙ simp (le-leb 1 r.read-run.result.size (omega arith), le-leb _ 7 c.before.if4.false))
+    let r = c in
+    sym (digits-read c.before.before.before.before.before ∙ simp (le-leb 1 r.read_run-run.result.size (omega arith), le-leb _ 7 c.if-size-run-gt-MOST_DIGITS.false))
 
-pub read-behind-spec : {M : Type 1} → statement M
-read-behind-spec =
+pub read_behind_spec : {M : Type 1} → statement M
+read_behind_spec =
     tie.close
     (tie.spec
     returns

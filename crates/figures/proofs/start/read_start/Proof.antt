@@ -11,68 +11,68 @@ use Rattle.figures.proofs.Sizes.{at_most, run_below}
 use Rattle.figures.proofs.start.read_start.Statement.{statement}
 use Rattle.figures.proofs.start.read_start.Tie as tie
 
-abbrev value : tie.After-read-run → List ℕ
-value c = c.before.before.args.v.now
+abbrev value : tie.After-read_run-run → List ℕ
+value c = c.args.v.now
 
-inside : (c : tie.After-read-run) → c.read-run.result.size ≤ length (value c)
-inside c = omega (arith, c.read-run.ensures.0, run_most (value c))
+inside : (c : tie.After-read_run-run) → c.read_run-run.result.size ≤ length (value c)
+inside c = omega (arith, c.read_run-run.ensures.0, run_most (value c))
 
 -- what may be the part before the point says
 whole_read :
-    (c : tie.After-may-be-whole) (b : Bool) → c.may-be-whole.result ≡ b →
-    let r = c.before.before in
-    let size = r.read-run.result.size in
-    start_of (value r) ≡ cond b (behind size r.read-run.result.number (drop size (value r))) Other
+    (c : tie.After-may_be_whole) (b : Bool) → c.may_be_whole.result ≡ b →
+    let r = c in
+    let size = r.read_run-run.result.size in
+    start_of (value c.before) ≡ cond b (behind size r.read_run-run.result.number (drop size (value c.before))) Other
 whole_read c b h =
-    let r = c.before.before in
-    let v = value r in
+    let r = c in
+    let v = value c.before in
     let answer : ℕ → ℕ → Start = λ i n. cond (may_be_whole (take i v)) (behind i n (drop i v)) Other in
-    let size = r.read-run.result.size in
-    ap₂ answer (sym r.read-run.ensures.0) (sym r.read-run.ensures.1)
-    ∙ ap (λ (x : Bool). cond x (behind size r.read-run.result.number (drop size v)) Other) (sym c.may-be-whole.ensures ∙ h)
+    let size = r.read_run-run.result.size in
+    ap₂ answer (sym r.read_run-run.ensures.0) (sym r.read_run-run.ensures.1)
+    ∙ ap (λ (x : Bool). cond x (behind size r.read_run-run.result.number (drop size v)) Other) (sym c.may_be_whole.ensures ∙ h)
 
-read-run-requires : tie.Need-read-run-requires
-read-run-requires c κs = let v = c.before.args.v.now in (omega arith, omega (arith, at_most (19 - length v) 0 (omega arith)))
+read-run-requires : tie.Need-read_run-run-requires
+read-run-requires c κs = let v = c.args.v.now in (omega arith, omega (arith, at_most (19 - length v) 0 (omega arith)))
 
-slice-aggregate-may-be-whole : tie.Need-slice-aggregate-may-be-whole
-slice-aggregate-may-be-whole c = sym (length-take-le c.before.read-run.result.size (value c.before) (inside c.before))
+slice-aggregate-may-be-whole : tie.Need-slice_bounds-may_be_whole-end
+slice-aggregate-may-be-whole c = sym (length-take-le c.read_run-run.result.size (value c) (inside c))
 
-may-be-whole-requires : tie.Need-may-be-whole-requires
+may-be-whole-requires : tie.Need-may_be_whole-requires
 may-be-whole-requires c κs = search rules
 
-returns : tie.Need-returns
-returns c = sym (whole_read c.before false (negated c.before.may-be-whole.result c.if1.true))
+returns : tie.Need-returns-then-not-may_be_whole
+returns c = sym (whole_read c.before false (c.if-not-may_be_whole.true))
 
-sub-read-behind : tie.Need-overflow-sub-read-behind
-sub-read-behind c = inside c.before.before.before
+sub-read-behind : tie.Need-slice_bounds-read_behind-count
+sub-read-behind c = inside c.before.before
 
-part-read-behind-start : tie.Need-slice-bounds-read-behind-start
-part-read-behind-start c = inside c.before.before.before
+part-read-behind-start : tie.Need-slice_bounds-read_behind-start
+part-read-behind-start c = inside c.before.before
 
-part-read-behind-end : tie.Need-slice-bounds-read-behind-end
+part-read-behind-end : tie.Need-slice_bounds-read_behind-end
 part-read-behind-end c = search rules
 
-read-behind-requires : tie.Need-read-behind-requires
+read-behind-requires : tie.Need-read_behind-requires
 read-behind-requires c κs =
-    let r = c.before.before.before.before in
-    let v = value r in
-    let size = r.read-run.result.size in
+    let r = c in
+    let v = value c.before.before.before in
+    let size = r.read_run-run.result.size in
     let rest = ap length (to_end v size) ∙ length-drop size v in (
-      omega (arith, run_below 0 0 v (omega arith), at_most size (0 + run v) (omega (arith, r.read-run.ensures.0)), r.read-run.ensures.1),
-      omega (arith, rest, inside r),
+      omega (arith, run_below 0 0 v (omega arith), at_most size (0 + run v) (omega (arith, r.read_run-run.ensures.0)), r.read_run-run.ensures.1),
+      omega (arith, rest, inside c.before.before.before),
     )
 
-returns-2 : tie.Need-returns-2
+returns-2 : tie.Need-returns
 returns-2 c =
-    let k = c.before.before in
-    let r = k.before.before.before in
-    let size = r.read-run.result.size in
+    let k = c in
+    let r = k in
+    let size = r.read_run-run.result.size in
     c.read_behind.ensures
-    ∙ ap (behind size r.read-run.result.number) (to_end (value r) size)
-    ∙ sym (whole_read k.before true (affirmed k.before.may-be-whole.result k.if1.false))
+    ∙ ap (behind size r.read_run-run.result.number) (to_end (value c.before.before.before.before) size)
+    ∙ sym (whole_read c.before.before.before true (k.if-not-may_be_whole.false))
 
-pub read-start-spec : {M : Type 1} → statement M
-read-start-spec =
+pub read_start_spec : {M : Type 1} → statement M
+read_start_spec =
     tie.close
     (tie.spec
     read-run-requires

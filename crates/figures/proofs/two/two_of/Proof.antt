@@ -9,44 +9,44 @@ use Rattle.figures.proofs.two.two_of.Tie as tie
 both : (v : List ℕ) (i : ℕ) → DigitsAt v i → Two (get_or v i 0) (get_or v (i + 1) 0)
 both v i h = two _ _ h.digits
 
-shared-slice-read-tens : tie.Need-shared-slice-read-tens
+shared-slice-read-tens : tie.Need-bounds-v-i
 shared-slice-read-tens c = search rules
 
-cast-tens : tie.Need-overflow-cast-tens
-cast-tens c = let t = both _ _ c.before.requires in omega arith
+cast-tens : tie.Need-overflow_cast-tens
+cast-tens c = let t = both _ _ c.requires in omega arith
 
-cast-tens-2 : tie.Need-overflow-cast-tens-2
+cast-tens-2 : tie.Need-overflow_cast-tens-2
 cast-tens-2 c = search rules
 
-sub-tens : tie.Need-overflow-sub-tens
-sub-tens c = let t = both _ _ c.before.requires in omega arith
+sub-tens : tie.Need-overflow_sub-tens
+sub-tens c = let t = both _ _ c.requires in omega arith
 
-add-ones : tie.Need-overflow-add-ones
+add-ones : tie.Need-overflow_add-ones
 add-ones c = search rules
 
-shared-slice-read-ones : tie.Need-shared-slice-read-ones
+shared-slice-read-ones : tie.Need-bounds-v-i-2
 shared-slice-read-ones c = search rules
 
-cast-ones : tie.Need-overflow-cast-ones
-cast-ones c = let t = both _ _ c.before.before.requires in omega arith
+cast-ones : tie.Need-overflow_cast-ones
+cast-ones c = let t = both _ _ c.requires in omega arith
 
-cast-ones-2 : tie.Need-overflow-cast-ones-2
+cast-ones-2 : tie.Need-overflow_cast-ones-2
 cast-ones-2 c = search rules
 
-sub-ones : tie.Need-overflow-sub-ones
-sub-ones c = let t = both _ _ c.before.before.requires in omega arith
+sub-ones : tie.Need-overflow_sub-ones
+sub-ones c = let t = both _ _ c.requires in omega arith
 
-mul-result : tie.Need-overflow-mul-result
-mul-result c = let t = both _ _ c.before.before.requires in omega arith
+mul-result : tie.Need-overflow_mul-result
+mul-result c = let t = both _ _ c.requires in omega arith
 
-add-result : tie.Need-overflow-add-result
-add-result c = let t = both _ _ c.before.before.requires in omega arith
+add-result : tie.Need-overflow_add-result
+add-result c = let t = both _ _ c.requires in omega arith
 
 returns : tie.Need-returns
 returns c = search rules
 
-pub two-of-spec : {M : Type 1} → statement M
-two-of-spec =
+pub two_of_spec : {M : Type 1} → statement M
+two_of_spec =
     tie.close
     (tie.spec
     shared-slice-read-tens

@@ -3,7 +3,7 @@
 use borrow.Author.Rules.{rules}
 use mathlib.Core.Path.{sym, ap}
 use Prim.Native.Nat.{◌+◌, ◌≤◌}
-use borrow.Author.Tests.{not_true, not_false}
+use borrow.Author.Tests.{not-true, not-false}
 use native.Mathlib.Omega.{arith}
 use lib.ListN.{length, length-append}
 use Rattle.writing.specs.Written.{join}
@@ -15,11 +15,11 @@ use Rattle.moves.proofs.listing.put_span.Tie as tie
 long : (c : tie.Else1) → let a = c.before.before.before.args in a.at + length a.name.now + 1 ≤ length a.out.now
 long c =
     let s = c.before.before.before in
-    let e = ap length (word_met s.args.name.now s.args.days {b = s.args.met} (not_false _ c.if1.false)) in
+    let e = ap length (word_met s.args.name.now s.args.days {b = s.args.met} (not-false _ c.if1.false)) in
     omega (arith, s.requires, simp length-append at e)
 
 returns : tie.Need-returns
-returns c = let a = c.before.before.before.args in same_wrote (sym (word_met a.name.now a.days {b = a.met} (not_true _ c.if1.true))) (nothing a.at a.out.now)
+returns c = let a = c.before.before.before.args in same_wrote (sym (word_met a.name.now a.days {b = a.met} (not-true _ c.if1.true))) (nothing a.at a.out.now)
 
 put-bytes-requires : tie.Need-put-bytes-requires
 put-bytes-requires c κs = omega (arith, long c.before)
@@ -36,7 +36,7 @@ returns-2 c =
     let p = q.before.before.before.before in
     let e = p.before.before in
     let a = e.before.before.before.args in
-    same_wrote (sym (word_met a.name.now a.days {b = a.met} (not_false _ e.if1.false))) (join p.put_bytes.ensures q.put_byte.ensures (omega (arith, long e)))
+    same_wrote (sym (word_met a.name.now a.days {b = a.met} (not-false _ e.if1.false))) (join p.put_bytes.ensures q.put_byte.ensures (omega (arith, long e)))
 
 pub put-span-spec : {M : Type 1} → statement M
 put-span-spec =

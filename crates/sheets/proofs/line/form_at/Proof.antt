@@ -1,7 +1,7 @@
 -- `sheets::line::form_at` meets its contract: a letter of one byte, a first part, and a line feed or three parts more, or it is no line.
 -- Assumes nothing.
 use borrow.Author.Rules.{rules}
-use borrow.Author.Tests.{not_true, not_false}
+use borrow.Author.Tests.{not-true, not-false}
 use mathlib.Core.Path.{◌≡◌, sym, ◌∙◌}
 use mathlib.Core.Bool.{true}
 use native.Mathlib.Omega.{arith}
@@ -14,7 +14,7 @@ use Rattle.sheets.proofs.line.form_at.Tie as tie
 
 -- a semicolon ends the letter's part
 parted : (c : tie.Else2) → leads 59 (drop c.before.before.before.stop-at.result c.before.before.before.before.before.args.sheet.now) ≡ true
-parted c = sym c.before.stands_at.ensures ∙ not_false _ c.if2.false
+parted c = sym c.before.stands_at.ensures ∙ not-false _ c.if2.false
 
 stop-at-requires : tie.Need-stop-at-requires
 stop-at-requires c κs = search rules
@@ -35,7 +35,7 @@ returns-2 : tie.Need-returns-2
 returns-2 c =
     let p = c.before.before.before in
     let k = p.before.before in
-    no_part_at k.args.sheet.now k.args.at k.requires _ p.stop-at.ensures.0 p.stop-at.ensures.1 (sym c.before.stands_at.ensures ∙ not_true _ c.if2.true)
+    no_part_at k.args.sheet.now k.args.at k.requires _ p.stop-at.ensures.0 p.stop-at.ensures.1 (sym c.before.stands_at.ensures ∙ not-true _ c.if2.true)
 
 add-stop-at : tie.Need-overflow-add-stop-at
 add-stop-at c = search rules
@@ -76,7 +76,7 @@ returns-4 c =
     let k = p.before.before in
     no_end_at k.args.sheet.now k.args.at k.requires _ p.stop-at.ensures.0 p.stop-at.ensures.1 d.if1.false (parted e) _ q.stop-at2.ensures.0
     (sym g.before.stands-at2.ensures ∙ g.if3.false)
-    (sym c.before.stands-at3.ensures ∙ not_true _ c.if4.true)
+    (sym c.before.stands-at3.ensures ∙ not-true _ c.if4.true)
 
 four-at-requires : tie.Need-four-at-requires
 four-at-requires c κs =
@@ -87,7 +87,7 @@ four-at-requires c κs =
     let p = d.before in
     let k = p.before.before in
     begun_at k.args.sheet.now k.args.at k.requires _ p.stop-at.ensures.0 p.stop-at.ensures.1 d.if1.false (parted e) _ q.stop-at2.ensures.0
-    (sym c.before.stands-at3.ensures ∙ not_false _ c.if4.false)
+    (sym c.before.stands-at3.ensures ∙ not-false _ c.if4.false)
 
 returns-5 : tie.Need-returns-5
 returns-5 c = search rules

@@ -1,7 +1,7 @@
 -- `sheets::line::four_at` meets its contract: each part ends at a semicolon, and the last at a line feed, or it is no line.
 -- Assumes nothing.
 use borrow.Author.Rules.{rules}
-use borrow.Author.Tests.{not_true, not_false}
+use borrow.Author.Tests.{not-true, not-false}
 use mathlib.Core.Path.{◌≡◌, sym, ◌∙◌}
 use mathlib.Core.Bool.{true}
 use native.Mathlib.Omega.{arith}
@@ -14,10 +14,10 @@ use Rattle.sheets.proofs.line.four_at.Tie as tie
 
 -- a semicolon ends the second part, and the third
 parted : (c : tie.Else1) → leads 59 (drop c.before.before.stop-at.result c.before.before.before.before.args.sheet.now) ≡ true
-parted c = sym c.before.stands_at.ensures ∙ not_false _ c.if1.false
+parted c = sym c.before.stands_at.ensures ∙ not-false _ c.if1.false
 
 parted-2 : (c : tie.Else2) → leads 59 (drop c.before.before.stop-at2.result c.before.before.before.before.before.before.before.args.sheet.now) ≡ true
-parted-2 c = sym c.before.stands-at2.ensures ∙ not_false _ c.if2.false
+parted-2 c = sym c.before.stands-at2.ensures ∙ not-false _ c.if2.false
 
 add-stop-at : tie.Need-overflow-add-stop-at
 add-stop-at c = search rules
@@ -32,7 +32,7 @@ returns : tie.Need-returns
 returns c =
     let p = c.before.before in
     let k = p.before.before in
-    no_third_at k.args.sheet.now k.args.at k.args.first k.requires _ p.stop-at.ensures.0 (sym c.before.stands_at.ensures ∙ not_true _ c.if1.true)
+    no_third_at k.args.sheet.now k.args.at k.args.first k.requires _ p.stop-at.ensures.0 (sym c.before.stands_at.ensures ∙ not-true _ c.if1.true)
 
 add-stop-at-2 : tie.Need-overflow-add-stop-at-2
 add-stop-at-2 c = search rules
@@ -53,7 +53,7 @@ returns-2 c =
     let p = e.before.before in
     let k = p.before.before in
     no_fourth_at k.args.sheet.now k.args.at k.args.first k.requires _ p.stop-at.ensures.0 (parted e) _ q.stop-at2.ensures.0
-    (sym c.before.stands-at2.ensures ∙ not_true _ c.if2.true)
+    (sym c.before.stands-at2.ensures ∙ not-true _ c.if2.true)
 
 add-stop-at-3 : tie.Need-overflow-add-stop-at-3
 add-stop-at-3 c = search rules
@@ -77,7 +77,7 @@ returns-3 c =
     let k = p.before.before in
     no_feed_at k.args.sheet.now k.args.at k.args.first k.requires _ p.stop-at.ensures.0 (parted e) _ q.stop-at2.ensures.0 (parted-2 f) _
     r.stop-at3.ensures.0
-    (sym c.before.stands-at3.ensures ∙ not_true _ c.if3.true)
+    (sym c.before.stands-at3.ensures ∙ not-true _ c.if3.true)
 
 shared-slice-read-t11 : tie.Need-shared-slice-read-t11
 shared-slice-read-t11 c = search rules
@@ -93,7 +93,7 @@ returns-4 c =
     let k = p.before.before in
     has_four k.args.sheet.now k.args.at k.args.first k.requires _ p.stop-at.ensures.0 (parted e) _ q.stop-at2.ensures.0 (parted-2 f) _
     r.stop-at3.ensures.0
-    (sym g.before.stands-at3.ensures ∙ not_false _ g.if3.false)
+    (sym g.before.stands-at3.ensures ∙ not-false _ g.if3.false)
 
 pub four-at-spec : {M : Type 1} → statement M
 four-at-spec =

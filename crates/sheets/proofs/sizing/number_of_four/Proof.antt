@@ -1,7 +1,7 @@
 -- `sheets::sizing::number_of_four` meets its contract, by the letter: K, H and Q of a seat, or price and lots of a trade.
 -- Assumes nothing.
 use borrow.Author.Rules.{rules}
-use borrow.Author.Tests.{eq-eqb, ne_eqb, not_true, not_false}
+use borrow.Author.Tests.{eq-eqb, ne_eqb, not-true, not-false}
 use mathlib.Core.Path.{sym, ◌∙◌}
 use Rattle.sheets.proofs.Numbers.{other_number, seat_number, trade_number}
 use Rattle.sheets.proofs.sizing.number_of_four.Statement.{statement}
@@ -38,7 +38,7 @@ returns-2 c =
     let e = f.before in
     let k = e.before.before in
     let a = k.args in
-    other_number a.mark a.sheet.now a.at a.tag a.first a.second a.third a.end k.requires (ne_eqb _ _ e.if1.false) (sym f.traded.ensures ∙ not_true _ c.if2.true)
+    other_number a.mark a.sheet.now a.at a.tag a.first a.second a.third a.end k.requires (ne_eqb _ _ e.if1.false) (sym f.traded.ensures ∙ not-true _ c.if2.true)
 
 add-from-2 : tie.Need-overflow-add-from-2
 add-from-2 c = search rules
@@ -64,7 +64,7 @@ returns-3 c =
     let a = k.args in
     c.stray-number2.ensures
     ∙ trade_number a.mark a.sheet.now a.at a.tag a.first a.second a.third a.end k.requires (ne_eqb _ _ e.if1.false)
-    (sym f.traded.ensures ∙ not_false _ g.if2.false)
+    (sym f.traded.ensures ∙ not-false _ g.if2.false)
 
 pub number-of-four-spec : {M : Type 1} → statement M
 number-of-four-spec =

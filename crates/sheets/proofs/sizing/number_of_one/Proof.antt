@@ -1,7 +1,7 @@
 -- `sheets::sizing::number_of_one` meets its contract, by the letter.
 -- Assumes nothing.
 use borrow.Author.Rules.{rules}
-use borrow.Author.Tests.{not_true, not_false}
+use borrow.Author.Tests.{not-true, not-false}
 use mathlib.Core.Path.{sym, ◌∙◌}
 use Rattle.sheets.proofs.Numbers.{one_carried, one_other, one_figured}
 use Rattle.sheets.proofs.sizing.number_of_one.Statement.{statement}
@@ -25,7 +25,7 @@ returns-2 c =
     let e = f.before in
     let k = e.before in
     let a = k.before.before.args in
-    one_other a.mark a.tag a.value.now (sym k.carried.ensures ∙ e.if1.false) (sym f.figured.ensures ∙ not_true _ c.if2.true)
+    one_other a.mark a.tag a.value.now (sym k.carried.ensures ∙ e.if1.false) (sym f.figured.ensures ∙ not-true _ c.if2.true)
 
 stray-number-requires : tie.Need-stray-number-requires
 stray-number-requires c κs = search rules
@@ -38,7 +38,7 @@ returns-3 c =
     let k = e.before in
     let a = k.before.before.args in
     c.stray-number.ensures
-    ∙ one_figured a.mark a.tag a.value.now (sym k.carried.ensures ∙ e.if1.false) (sym f.figured.ensures ∙ not_false _ g.if2.false)
+    ∙ one_figured a.mark a.tag a.value.now (sym k.carried.ensures ∙ e.if1.false) (sym f.figured.ensures ∙ not-false _ g.if2.false)
 
 pub number-of-one-spec : {M : Type 1} → statement M
 number-of-one-spec =

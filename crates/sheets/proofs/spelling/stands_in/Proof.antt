@@ -7,7 +7,7 @@ use Prim.Native.Nat.{ℕ, ◌≤◌, ◌<◌, ◌+◌, ◌-◌}
 use mathlib.Core.Path.{◌≡◌, sym, ◌∙◌}
 use mathlib.Core.List.{List}
 use mathlib.Core.Logic.{⊎_elim}
-use mathlib.Core.Bool.{Bool, true, ◌||◌, or-true, or_false}
+use mathlib.Core.Bool.{Bool, true, ◌||◌, or-true, or-false}
 use lib.ListN.{length, get_or, drop, drop_of_length-le}
 use Rattle.sheets.specs.Mark.{stands_in}
 use Rattle.sheets.proofs.Bytes.{drop_step}
@@ -53,7 +53,7 @@ loop-again c =
     )
 
 returns : tie.Need-returns invariant-loop decreases-loop
-returns c = simp (drop_of_length-le c.before.before.args.s.now c.loop-test.false, or_false) at c.before.loop.invariant.1
+returns c = simp (drop_of_length-le c.before.before.args.s.now c.loop-test.false, or-false) at c.before.loop.invariant.1
 
 pub stands-in-spec : {M : Type 1} → statement M
 stands-in-spec =
