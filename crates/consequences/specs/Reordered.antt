@@ -2,7 +2,7 @@
 -- stamp there are the same trades in the same order: its indices rise, in the one order as in the other.
 -- Assumes nothing.
 use Rattle.std.specs.Prelude.{ℕ, zero, suc, ◌≤◌, ◌<◌, ◌≡◌, refl, List, [], ◌∷◌, ◌++◌, Bool, true, false, cond, ◌||◌, length, get_or, ltb, eqb}
-use Rattle.std.proofs.Common.{sym, ap, ◌∙◌, arith, ltb-true, ltb-false, eqb-true}
+use Rattle.std.proofs.Common.{eq-eqb, sym, ap, ◌∙◌, arith, ltb-true, ltb-false, eqb-true}
 use Rattle.std.proofs.lemmas.Bool.{eqb-false}
 use Rattle.laws.specs.ByTest.{by_test}
 use Rattle.consequences.specs.Rearranged.{picked, among, Below}
@@ -36,7 +36,7 @@ module _ (stamp_at : ℕ → ℕ) (d : ℕ) where
   among_of k [] = by_test (eqb (stamp_at k) d) (λ h. rw h) (λ h. rw h)
   among_of k (i ∷ is) =
       by_test (eqb k i)
-      (λ e. let same : k ≡ i = eqb-true k i e in by_test (eqb (stamp_at i) d) (λ h. rw (same, h, own i is, own i (of_index is))) (λ h. rw (same, h) (among_of i is ∙ rw h)))
+      (λ e. let same : k ≡ i = eqb-true k i e in by_test (eqb (stamp_at i) d) (λ h. rw (same, h, eq-eqb i i refl)) (λ h. rw (same, h) (among_of i is ∙ rw h)))
       (λ e. by_test (eqb (stamp_at i) d) (λ h. rw (h, e) (among_of k is)) (λ h. rw (h, e) (among_of k is)))
 
   kept_rise : (lo n : ℕ) (is : List ℕ) → lo ≤ n → Below n is → OfFrom stamp_at d lo is → KeepsOrder stamp_at is → Rises lo n (of_index is)

@@ -66,7 +66,7 @@ whole_plain ds h m =
 
 number_append : (n : ℕ) (a b : List ℕ) → number_after n (a ++ b) ≡ number_after (number_after n a) b
 number_append n [] b = refl
-number_append n (x ∷ a) b = number_append _ a b
+number_append n (x ∷ a) b = number_append (number_after n (x ∷ [])) a b
 
 parts_start :
     (ds w : List ℕ) {es t : List ℕ} → Decimals es t → Closed w → 1 ≤ length ds → plain ds ≡ true → all_digits_of es ≡ true → length ds + length es ≤ 7 →

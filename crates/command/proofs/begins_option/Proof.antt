@@ -6,14 +6,14 @@ use borrow.Author.Rules.{rules}
 use Rattle.command.proofs.begins_option.Statement.{statement}
 use Rattle.command.proofs.begins_option.Tie as tie
 
-returns : tie.Need-returns
-returns c = rw (get_or-eq_default c.before.args.word.now 0 {n = 0} (omega (arith, c.if1.true)))
+returns : tie.Need-returns-then-word-eq0
+returns c = rw (get_or-eq_default c.args.word.now 0 {n = 0} (omega (arith, c.if-word-eq0.true)))
 
-shared-slice-read-result : tie.Need-shared-slice-read-result
+shared-slice-read-result : tie.Need-bounds-word-0
 shared-slice-read-result c = search rules
 
-returns-2 : tie.Need-returns-2
+returns-2 : tie.Need-returns
 returns-2 c = search rules
 
-pub begins-option-spec : {M : Type 1} → statement M
-begins-option-spec = tie.close (tie.spec returns shared-slice-read-result returns-2)
+pub begins_option_spec : {M : Type 1} → statement M
+begins_option_spec = tie.close (tie.spec returns shared-slice-read-result returns-2)

@@ -19,7 +19,7 @@ module _ (t : tie.After-spread) where
   keys = start.args.keys.now
 
   begun : Ready start.args.lots.now start.args.count start.args.x start.args.sum
-  begun = let p = start.requires in record { bounded = p.bounded; total = p.total; less = omega (arith, p.most, t.if-x-sum.left) }
+  begun = let p = start.requires in record { bounded = p.bounded; total = p.total; less = omega (arith, p.most, t.if-x-sum.false) }
 
 returns : tie.Need-returns-then-x-sum
 returns c =

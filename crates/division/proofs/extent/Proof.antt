@@ -7,6 +7,7 @@ use native.Mathlib.Omega.{arith}
 use Rattle.division.proofs.Between.{Between, one_between, passed_between, spanned}
 use borrow.Author.Rules.{rules}
 use Rattle.division.proofs.extent.Statement.{statement}
+use Rattle.division.proofs.extent.Lts.{then-lots-i, else-lots-i}
 use Rattle.division.proofs.extent.Tie as tie
 
 abbrev invariant-loop-i : tie.invariant-loop-i
@@ -51,10 +52,10 @@ loop-less c = search rules
 loop-again : tie.Need-loop-i-preserved invariant-loop-i decreases-loop-i
 loop-again c =
     let v = c.loop-i.invariant in
-    ⊎_elim
-    (λ w. rw (w.5, w.6, w.2.ensures, w.4.ensures) (omega arith, one_between v.1))
-    (λ w. rw (w.1, w.2) (omega arith, passed_between v.1 w.0.left))
-    c.if-lots-i.branch
+    elim c.if-lots-i.branch [
+      then-lots-i w ↦ rw (w.least-is, w.most-is, w.lesser-least.ensures, w.greater-most.ensures) (omega arith, one_between v.1)
+      | else-lots-i w ↦ rw (w.least-is, w.most-is) (omega arith, passed_between v.1 w.if-lots-i.false)
+    ]
 
 lesser-requires-2 : tie.Need-lesser-requires invariant-loop-i decreases-loop-i
 lesser-requires-2 c κs = search rules

@@ -39,10 +39,10 @@ loop-less c = omega arith
 loop-again : tie.Need-loop-low-preserved-then-n-need-2 invariant-loop-low decreases-loop-low
 loop-again c = omega arith
 
-loop-less-2 : tie.Need-loop-smaller-2 invariant-loop-low decreases-loop-low
+loop-less-2 : tie.Need-loop-low-smaller invariant-loop-low decreases-loop-low
 loop-less-2 c = omega arith
 
-loop-again-2 : tie.Need-loop-preserved-2 invariant-loop-low decreases-loop-low
+loop-again-2 : tie.Need-loop-low-preserved invariant-loop-low decreases-loop-low
 loop-again-2 c = omega arith
 
 returns-2 : tie.Need-returns invariant-loop-low decreases-loop-low

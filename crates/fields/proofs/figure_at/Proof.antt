@@ -11,21 +11,21 @@ use Rattle.fields.proofs.figure_at.Statement.{statement}
 use Rattle.fields.proofs.figure_at.Tie as tie
 
 -- the field that stands there
-module _ (c : tie.After-known-told) where
+module _ (c : tie.In-There) where
   abbrev book : List ℕ
-  book = c.before.before.before.before.before.args.book.now
+  book = c.args.book.now
 
   abbrev at : ℕ
-  at = c.before.before.before.before.before.args.at
+  at = c.args.at
 
   abbrev start : ℕ
-  start = c.before.start.given.0.0
+  start = c.in-There.start
 
   abbrev end : ℕ
-  end = c.before.start.given.0.1.0
+  end = c.in-There.end
 
-  there : Due book at c.before.before.before.before.before.args.tag start end
-  there = due_there book at _ start end (sym c.before.before.before.due-at.ensures ∙ c.before.start.given.1)
+  there : Due book at c.args.tag start end
+  there = due_there book at _ start end (sym c.due_at.ensures ∙ c.in-There.is)
 
   order : start ≤ end
   order = there.order
@@ -33,42 +33,42 @@ module _ (c : tie.After-known-told) where
   inside : end ≤ length book
   inside = there.inside
 
-due-at-requires : tie.Need-due-at-requires
+due-at-requires : tie.Need-due_at-requires
 due-at-requires c κs = search rules
 
-enum-known-start : tie.Need-enum-known-start
+enum-known-start : tie.Need-enum_known-start
 enum-known-start c = search rules
 
-sub-read-figure : tie.Need-overflow-sub-read-figure
+sub-read-figure : tie.Need-slice_bounds-read_figure-count
 sub-read-figure c = order c
 
-part-read-figure-start : tie.Need-slice-bounds-read-figure-start
+part-read-figure-start : tie.Need-slice_bounds-read_figure-start
 part-read-figure-start c = let l = order c in let m = inside c in search rules
 
-part-read-figure-end : tie.Need-slice-bounds-read-figure-end
+part-read-figure-end : tie.Need-slice_bounds-read_figure-end
 part-read-figure-end c = let l = order c in let m = inside c in search rules
 
-read-figure-requires : tie.Need-read-figure-requires
+read-figure-requires : tie.Need-read_figure-requires
 read-figure-requires c κs = search rules
 
 told-requires : tie.Need-told-requires
 told-requires c κs = search rules
 
-enum-known-r : tie.Need-enum-known-r
+enum-known-r : tie.Need-enum_known-r
 enum-known-r c = search rules
 
-returns : tie.Need-returns
+returns : tie.Need-returns-in-There
 returns c =
-    let k = c.before.before.before in
-    c.told.ensures ∙ ap (figure_at (at k) (end k)) c.before.read_figure.ensures ∙ sym ((there k).figure c.before.before.before.before.before.before.before.before.args.form)
+    let k = c in
+    c.told.ensures ∙ ap (figure_at (at c.before.before.before) (end c.before.before.before)) c.read_figure.ensures ∙ sym ((there c.before.before.before).figure c.args.form)
 
-returns-2 : tie.Need-returns-2
+returns-2 : tie.Need-returns-in-Refused
 returns-2 c =
-    let a = c.before.before.before.before.before.args in
-    sym (due_refused a.book.now a.at a.tag _ (sym c.before.before.before.due-at.ensures ∙ c.before.r.given.1) a.form)
+    let a = c.args in
+    sym (due_refused a.book.now a.at a.tag _ (sym c.due_at.ensures ∙ c.in-Refused.is) a.form)
 
-pub figure-at-spec : {M : Type 1} → statement M
-figure-at-spec =
+pub figure_at_spec : {M : Type 1} → statement M
+figure_at_spec =
     tie.close
     (tie.spec
     due-at-requires

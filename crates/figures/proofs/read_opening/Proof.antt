@@ -111,12 +111,12 @@ returns-4 c =
     let m = r in
     let e = at_pair c.before.before in
     let bought = e.args.bought in
-    let both = k.price.given.0 in
-    let trade : c.trade_of.result ≡ trade_of bought both.0 both.1.1.0 m.in-Number.made = c.trade_of.ensures in
+    let both = k.in-Both in
+    let trade : c.trade_of.result ≡ trade_of bought both.price both.lots m.in-Number.made = c.trade_of.ensures in
     sym (all_read bought (value e) (cut e) _ _ _ _ (room e)
     (pair_read c.before.before (Both _ _ _) k.in-Both.is)
     (stamp-read c.before.before.before.before (Number _) m.in-Number.is)
-    ∙ ap (λ (t : Trade). Made t both.1.0) (sym trade))
+    ∙ ap (λ (t : Trade). Made t both.decimals) (sym trade))
 
 pub read_opening_spec : {M : Type 1} → statement M
 read_opening_spec =

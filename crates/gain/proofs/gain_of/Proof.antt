@@ -39,39 +39,39 @@ gained : (s : tie.Start) {z : ℤ} → z ≡ gain_of s.args.long s.args.settleme
     Gained s.args.long s.args.settlement s.args.price s.args.lots z
 gained s e = record { exact = e; size = rw e (gain_size s.args.long _ _ _ s.requires.settlement s.requires.price) }
 
-cast-s : tie.Need-overflow-cast-s
+cast-s : tie.Need-overflow_cast-s
 cast-s c = search rules
 
-cast-p : tie.Need-overflow-cast-p
+cast-p : tie.Need-overflow_cast-p
 cast-p c = search rules
 
-cast-n : tie.Need-overflow-cast-n
+cast-n : tie.Need-overflow_cast-n
 cast-n c = search rules
 
-sub-result : tie.Need-overflow-sub-result
-sub-result c = let h = c.before.before.before.requires in minus-fits _ _ h.settlement h.price
+sub-result : tie.Need-overflow_sub-result
+sub-result c = let h = c.requires in minus-fits _ _ h.settlement h.price
 
-mul-result : tie.Need-overflow-mul-result
-mul-result c = let h = c.before.before.before.requires in times-fits _ _ h.settlement h.price _ h.lots
+mul-result : tie.Need-overflow_mul-result
+mul-result c = let h = c.requires in times-fits _ _ h.settlement h.price _ h.lots
 
-sub-result-2 : tie.Need-overflow-sub-result-2
-sub-result-2 c = let h = c.before.before.before.requires in minus-fits _ _ h.price h.settlement
+sub-result-2 : tie.Need-overflow_sub-result-else-long
+sub-result-2 c = let h = c.requires in minus-fits _ _ h.price h.settlement
 
-mul-result-2 : tie.Need-overflow-mul-result-2
-mul-result-2 c = let h = c.before.before.before.requires in times-fits _ _ h.price h.settlement _ h.lots
+mul-result-2 : tie.Need-overflow_mul-result-else-long
+mul-result-2 c = let h = c.requires in times-fits _ _ h.price h.settlement _ h.lots
 
-returns : tie.Need-returns
+returns : tie.Need-returns-then-long
 returns c =
-    let s = c.before.before.before in
-    gained s (rw c.if1.true (times-is _ _ s.requires.settlement s.requires.price _ s.requires.lots))
+    let s = c in
+    gained c.before.before.before (rw c.if-long.true (times-is _ _ s.requires.settlement s.requires.price _ s.requires.lots))
 
-returns-2 : tie.Need-returns-2
+returns-2 : tie.Need-returns-else-long
 returns-2 c =
-    let s = c.before.before.before in
-    gained s (rw c.if1.false (times-is _ _ s.requires.price s.requires.settlement _ s.requires.lots))
+    let s = c in
+    gained c.before.before.before (rw c.if-long.false (times-is _ _ s.requires.price s.requires.settlement _ s.requires.lots))
 
-pub gain-of-spec : {M : Type 1} → statement M
-gain-of-spec =
+pub gain_of_spec : {M : Type 1} → statement M
+gain_of_spec =
     tie.close
     (tie.spec
     cast-s

@@ -14,6 +14,8 @@ use Rattle.rules.specs.Standing.{reaches, counted_pending}
 use Rattle.laws.specs.Exact.{Exact, of_int, of_neg, neg_fits, size_neg}
 use Rattle.gain.proofs.Edges.{edge_test}
 use Rattle.gain.proofs.locked_standing.Statement.{statement}
+use borrow.Author.Tests.{lt-ltb, le-ltb}
+use Rattle.gain.proofs.locked_standing.Lts.{else-reaches-via-then-reaches+else-pending-gt0, else-reaches-via-else-reaches}
 use Rattle.gain.proofs.locked_standing.Tie as tie
 
 module _ (s : tie.Start) where
@@ -21,54 +23,57 @@ module _ (s : tie.Start) where
   small = omega (arith, s.requires.total)
 
   total_is : Exact (of_z w64 s.args.total) s.args.total
-  total_is = of_int s.args.total s.fits.total
+  total_is = of_int s.args.total s.ranges.total
 
   loss-is : Exact (of_z w64 (pos 0 -ℤ to_z w64 (of_z w64 s.args.total))) (neg_ℤ s.args.total)
   loss-is = of_neg total_is small
 
 lost : (c : tie.After-reaches) →
-    let a = c.before.before.before.args in
+    let a = c.args in
     reaches a.terms a.position (neg_ℤ a.total) a.terms.loss ≡ c.reaches.result
 lost c =
-    let n = c.before.before in
-    let a = n.before.args in
-    edge_test a.terms a.position a.terms.loss n.net_of.ensures (loss-is n.before) c.reaches.ensures
+    let n = c in
+    let a = n.args in
+    edge_test a.terms a.position a.terms.loss n.net_of-net.ensures (loss-is c.before.before.before.before.before) c.reaches.ensures
 
-pending : (c : tie.After-reaches) (b : Bool) → ltb 0 c.before.counted_pending.result.0 ≡ b →
-    ltb 0 (counted_pending c.before.before.before.args.position) ≡ b
-pending c b e = ap (ltb 0) (sym c.before.counted_pending.ensures) ∙ e
+pending : (c : tie.After-reaches) (b : Bool) → ltb 0 c.counted_pending-pending.result.0 ≡ b →
+    ltb 0 (counted_pending c.args.position) ≡ b
+pending c b e = ap (ltb 0) (sym c.counted_pending-pending.ensures) ∙ e
 
-net-of-requires : tie.Need-net-of-requires
+net-of-requires : tie.Need-net_of-net-requires
 net-of-requires c κs = search rules
 
-counted-pending-requires : tie.Need-counted-pending-requires
+counted-pending-requires : tie.Need-counted_pending-pending-requires
 counted-pending-requires c κs = search rules
 
-sub-reaches : tie.Need-overflow-sub-reaches
-sub-reaches c = let s = c.before.before in neg_fits (total_is s) (small s)
+sub-reaches : tie.Need-overflow_sub-total
+sub-reaches c = let s = c in neg_fits (total_is c.before.before) (small c.before.before)
 
 reaches-requires : tie.Need-reaches-requires
 reaches-requires c κs =
-    let s = c.before.before in
+    let s = c in
     record {
-      total = rw ((loss-is s).num, size_neg s.args.total) s.requires.total;
+      total = rw ((loss-is c.before.before.before.before).num, size_neg s.args.total) s.requires.total;
       edge = s.requires.loss;
       settlement = s.requires.settlement;
-      net = omega (arith, s.requires.long, s.requires.short, c.before.net_of.ensures);
+      net = omega (arith, s.requires.long, s.requires.short, c.net_of-net.ensures);
     }
 
-returns : tie.Need-returns
+returns : tie.Need-returns-then-pending-gt0
 returns c =
-    let r = c.before.before.before in
-    rw (lost r ∙ c.before.before.if1.true, pending r true c.if2.true)
+    let r = c in
+    rw (lost c.before.before.before ∙ c.if-reaches.true, pending c.before.before.before true (lt-ltb 0 c.counted_pending-pending.result.0 c.if-pending-gt0.true))
 
-returns-2 : tie.Need-returns-2
+returns-2 : tie.Need-returns-else-reaches
 returns-2 c =
-    let r = c.before in
-    ⊎_elim (λ h. rw (lost r ∙ h.0.taken, pending r false h.2.left)) (λ h. rw (lost r ∙ h.left)) c.if1.branch
+    let r = c in
+    elim c.else-reaches.branch [
+      else-reaches-via-then-reaches+else-pending-gt0 w ↦ rw (lost c.before ∙ w.if-reaches.true, pending c.before false (le-ltb 0 c.counted_pending-pending.result.0 w.if-pending-gt0.false))
+      | else-reaches-via-else-reaches w ↦ rw (lost c.before ∙ w.if-reaches.false)
+    ]
 
-pub locked-standing-spec : {M : Type 1} → statement M
-locked-standing-spec =
+pub locked_standing_spec : {M : Type 1} → statement M
+locked_standing_spec =
     tie.close
     (tie.spec
     net-of-requires

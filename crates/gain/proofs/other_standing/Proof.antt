@@ -28,52 +28,52 @@ module _ (s : tie.Start) where
   gains : (b : Bool) → le_z (to_z w64 (of_z w64 s.args.total)) (pos 0) ≡ b → lt_z (pos 0) s.args.total ≡ not b
   gains b e = above_zero s.args.total ∙ ap (λ (z : ℤ). not (le_z z (pos 0))) (sym total_is.num) ∙ ap not e
 
-some : (c : tie.Else1) → lt_z (pos 0) c.before.before.args.total ≡ true
-some c = gains c.before.before false c.if1.false
+some : (c : tie.Else-total-le0) → lt_z (pos 0) c.args.total ≡ true
+some c = gains c.before.before false c.if-total-le0.false
 
 tier1 : (c : tie.After-reaches) →
-    let a = c.before.before.before.args in
+    let a = c.args in
     reaches a.terms a.position a.total a.terms.edge1 ≡ c.reaches.result
 tier1 c =
-    let n = c.before.before in
-    let a = n.before.args in
-    edge_test a.terms a.position a.terms.edge1 n.net_of.ensures (total_is n.before) c.reaches.ensures
+    let n = c in
+    let a = n.args in
+    edge_test a.terms a.position a.terms.edge1 n.net_of-net.ensures (total_is c.before.before.before.before.before) c.reaches.ensures
 
-tier2 : (c : tie.After-reaches2) →
-    let a = c.before.before.before.before.before.args in
-    reaches a.terms a.position a.total a.terms.edge2 ≡ c.reaches2.result
+tier2 : (c : tie.After-reaches-else-reaches) →
+    let a = c.args in
+    reaches a.terms a.position a.total a.terms.edge2 ≡ c.reaches-else-reaches.result
 tier2 c =
-    let n = c.before.before.before.before in
-    let a = n.before.args in
-    edge_test a.terms a.position a.terms.edge2 n.net_of.ensures (total_is n.before) c.reaches2.ensures
+    let n = c in
+    let a = n.args in
+    edge_test a.terms a.position a.terms.edge2 n.net_of-net.ensures (total_is c.before.before.before.before.before.before.before.before.before) c.reaches-else-reaches.ensures
 
-net-of-requires : tie.Need-net-of-requires
+net-of-requires : tie.Need-net_of-net-requires
 net-of-requires c κs = search rules
 
-returns : tie.Need-returns
-returns c = rw (gains c.before.before true c.if1.true)
+returns : tie.Need-returns-then-total-le0
+returns c = rw (gains c.before.before true c.if-total-le0.true)
 
 reaches-requires : tie.Need-reaches-requires
 reaches-requires c κs = search rules
 
-returns-2 : tie.Need-returns-2
-returns-2 c = rw (some c.before.before, tier1 c.before ∙ c.if2.true)
+returns-2 : tie.Need-returns-then-reaches
+returns-2 c = rw (some c.before.before.before.before, tier1 c.before ∙ c.if-reaches.true)
 
-reaches-requires-2 : tie.Need-reaches-requires-2
+reaches-requires-2 : tie.Need-reaches-requires-else-reaches
 reaches-requires-2 c κs = search rules
 
-returns-3 : tie.Need-returns-3
+returns-3 : tie.Need-returns-then-reaches-2
 returns-3 c =
-    let h = c.before.before in
-    rw (some h.before.before, tier1 h.before ∙ h.if2.false, tier2 c.before ∙ c.if3.true)
+    let h = c in
+    rw (some c.before.before.before.before.before.before.before.before, tier1 c.before.before.before.before.before ∙ h.if-reaches.false, tier2 c.before ∙ c.if-reaches-2.true)
 
-returns-4 : tie.Need-returns-4
+returns-4 : tie.Need-returns-else-reaches-2
 returns-4 c =
-    let h = c.before.before in
-    rw (some h.before.before, tier1 h.before ∙ h.if2.false, tier2 c.before ∙ c.if3.false)
+    let h = c in
+    rw (some c.before.before.before.before.before.before.before.before, tier1 c.before.before.before.before.before ∙ h.if-reaches.false, tier2 c.before ∙ c.if-reaches-2.false)
 
-pub other-standing-spec : {M : Type 1} → statement M
-other-standing-spec =
+pub other_standing_spec : {M : Type 1} → statement M
+other_standing_spec =
     tie.close
     (tie.spec
     net-of-requires

@@ -20,27 +20,27 @@ module _ (s : tie.Start) where
   hundred = of_nat 100_000 (omega arith)
 
   scaled : nat_abs (s.args.total *ℤ pos 100_000) < 2 ^ 63
-  scaled = omega (arith, size_mul s.args.total (pos 100_000) s.pre.total (le_refl 100_000))
+  scaled = omega (arith, size_mul s.args.total (pos 100_000) s.requires.total (le_refl 100_000))
 
   limit : s.args.edge.0 * s.args.settlement.0 * s.args.net.0 < 2 ^ 63
-  limit = omega (arith, mul-le-mul (mul-le-mul s.pre.edge s.pre.settlement) s.pre.net)
+  limit = omega (arith, mul-le-mul (mul-le-mul s.requires.edge s.requires.settlement) s.requires.net)
 
-mul-limit : tie.Need-overflow-mul-limit
-mul-limit c = let h = c.before.before.requires in omega (arith, mul-le-mul h.edge h.settlement)
+mul-limit : tie.Need-overflow_mul-limit
+mul-limit c = let h = c.requires in omega (arith, mul-le-mul h.edge h.settlement)
 
-mul-limit-2 : tie.Need-overflow-mul-limit-2
+mul-limit-2 : tie.Need-overflow_mul-limit-2
 mul-limit-2 c = omega (arith, limit c.before.before.before)
 
-mul-result : tie.Need-overflow-mul-result
-mul-result c = let s = c.before.before.before in op_fits (total_is s) (hundred s) ◌*ℤ◌ (scaled s)
+mul-result : tie.Need-overflow_mul-result
+mul-result c = let s = c in op_fits (total_is c.before.before.before) (hundred c.before.before.before) ◌*ℤ◌ (scaled c.before.before.before)
 
-cast-result : tie.Need-overflow-cast-result
+cast-result : tie.Need-overflow_cast-result
 cast-result c = omega (arith, limit c.before.before.before)
 
 returns : tie.Need-returns
 returns c =
-    let s = c.before.before.before in
-    both (of_nat _ (limit s)) (of_op (total_is s) (hundred s) ◌*ℤ◌ (scaled s)) le_z
+    let s = c in
+    both (of_nat _ (limit c.before.before.before)) (of_op (total_is c.before.before.before) (hundred c.before.before.before) ◌*ℤ◌ (scaled c.before.before.before)) le_z
 
-pub reaches-spec : {M : Type 1} → statement M
-reaches-spec = tie.close (tie.spec mul-limit mul-limit-2 mul-result cast-result returns)
+pub reaches_spec : {M : Type 1} → statement M
+reaches_spec = tie.close (tie.spec mul-limit mul-limit-2 mul-result cast-result returns)

@@ -23,49 +23,49 @@ same-side false false = refl
 kept : (s : tie.Start) → to_z w64 (of_z w64 s.args.total) ≡ s.args.total
 kept s = (of_int s.args.total s.ranges.total).num
 
-held : (c : tie.Else1) → eqb (net c.before.before.before.args.position) 0 ≡ false
-held c = ne_eqb _ 0 (λ e. c.if1.false (c.before.before.net_of.ensures ∙ e))
+held : (c : tie.Else-net-eq0) → eqb (net c.args.position) 0 ≡ false
+held c = ne_eqb _ 0 (λ e. c.if-net-eq0.false (c.net_of-net.ensures ∙ e))
 
-locked : (c : tie.After-net-long) (b : Bool) →
-    let a = c.before.before.before.before.args in
+locked : (c : tie.After-net_long) (b : Bool) →
+    let a = c.args in
     beq c.net_long.result a.terms.down ≡ b → on_locked_side a.terms a.position ≡ b
 locked c b e =
-    let a = c.before.before.before.before.args in
+    let a = c.args in
     same-side (net_long a.position) a.terms.down ∙ (rw c.net_long.ensures at e)
 
-net-of-requires : tie.Need-net-of-requires
+net-of-requires : tie.Need-net_of-net-requires
 net-of-requires c κs = search rules
 
-returns : tie.Need-returns
+returns : tie.Need-returns-then-net-eq0
 returns c =
-    let n = c.before.before in
-    rw (eq-eqb (net n.before.args.position) 0 (sym n.net_of.ensures ∙ c.if1.true))
+    let n = c in
+    rw (eq-eqb (net n.args.position) 0 (sym n.net_of-net.ensures ∙ c.if-net-eq0.true))
 
-net-long-requires : tie.Need-net-long-requires
+net-long-requires : tie.Need-net_long-requires
 net-long-requires c κs = search rules
 
-locked-standing-requires : tie.Need-locked-standing-requires
+locked-standing-requires : tie.Need-locked_standing-requires
 locked-standing-requires c κs = search rules
 
-other-standing-requires : tie.Need-other-standing-requires
+other-standing-requires : tie.Need-other_standing-requires
 other-standing-requires c κs = search rules
 
-returns-2 : tie.Need-returns-2
+returns-2 : tie.Need-returns-then-net_long-terms
 returns-2 c =
-    let n = c.before.before.before in
-    let s = n.before.before.before.before in
-    rw (held n.before, locked n true c.before.if2.true)
-    (c.locked-standing.ensures ∙ ap (locked_standing s.args.terms s.args.position) (kept s))
+    let n = c in
+    let s = n in
+    rw (held c.before.before.before.before, locked c.before.before.before true c.if-net_long-terms.true)
+    (c.locked_standing.ensures ∙ ap (locked_standing s.args.terms s.args.position) (kept c.before.before.before.before.before.before.before))
 
-returns-3 : tie.Need-returns-3
+returns-3 : tie.Need-returns-else-net_long-terms
 returns-3 c =
-    let n = c.before.before.before in
-    let s = n.before.before.before.before in
-    rw (held n.before, locked n false c.before.if2.false)
-    (c.other-standing.ensures ∙ ap (other_standing s.args.terms s.args.position) (kept s))
+    let n = c in
+    let s = n in
+    rw (held c.before.before.before.before, locked c.before.before.before false c.if-net_long-terms.false)
+    (c.other_standing.ensures ∙ ap (other_standing s.args.terms s.args.position) (kept c.before.before.before.before.before.before.before))
 
-pub standing-of-spec : {M : Type 1} → statement M
-standing-of-spec =
+pub standing_of_spec : {M : Type 1} → statement M
+standing_of_spec =
     tie.close
     (tie.spec
     net-of-requires

@@ -45,7 +45,7 @@ at c = c.before.before.before.before
 places : (c : tie.After-read_inside-rest) → c.read_inside-rest.result.size ≤ length (value (at c))
 places c =
     let v = value (at c) in
-    let from = (at c).read-inside.result.size + 1 in
+    let from = (at c).read_inside-whole.result.size + 1 in
     omega (arith, c.read_inside-rest.ensures.0 ∙ ap run (to_end v from), run_most (drop from v), length-drop from v)
 
 read-inside-requires : tie.Need-read_inside-whole-requires

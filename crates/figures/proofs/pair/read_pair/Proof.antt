@@ -51,13 +51,13 @@ module _ (c : tie.In-Ends) where
 lots_read :
     (c : tie.After-read_lots) (d : Digits) → c.read_lots.result ≡ d →
     let k = c in
-    lots_of (figure_of traded_form (after_blank (value k))) ≡ d
+    lots_of (figure_of traded_form (after_blank (value c.before.before.before))) ≡ d
 lots_read c d h =
     let k = c in
-    let v = value k in
-    let from = blank k + 1 in
+    let v = value c.before.before.before in
+    let from = blank c.before.before.before + 1 in
     let read : c.read_lots.result ≡ lots_of (figure_of traded_form (take (length v - from) (drop from v))) = c.read_lots.ensures in
-    sym (read ∙ ap (λ (l : List ℕ). lots_of (figure_of traded_form l)) (to_end v from ∙ after_blank_lem v (blank k) (front k).0 (inside k))) ∙ h
+    sym (read ∙ ap (λ (l : List ℕ). lots_of (figure_of traded_form l)) (to_end v from ∙ after_blank_lem v (blank c.before.before.before) (front c.before.before.before).0 (inside c.before.before.before))) ∙ h
 
 returns : tie.Need-returns-then-v-gt-LONGEST
 returns c = let v = c.args.v.now in sym (no_pair v (λ p d n r. omega (arith, pair_short v p d n r, c.if-v-gt-LONGEST.true)))
@@ -85,7 +85,7 @@ returns-2 c =
 returns-3 : tie.Need-returns-then-price-eq0
 returns-3 c =
     let k = c in
-    sym (no_pair (value k) (λ p d n r. omega (arith, (same k p d n r).0, price_least p d r.range, c.if-price-eq0.true)))
+    sym (no_pair (value c.before) (λ p d n r. omega (arith, (same c.before p d n r).0, price_least p d r.range, c.if-price-eq0.true)))
 
 add-read-lots : tie.Need-overflow_add-blank
 add-read-lots c = omega (arith, inside c.before)
@@ -102,8 +102,8 @@ part-read-lots-end c = search rules
 read-lots-requires : tie.Need-read_lots-requires
 read-lots-requires c κs =
     let k = c in
-    let v = value k in
-    let from = blank k + 1 in
+    let v = value c.before.before in
+    let from = blank c.before.before + 1 in
     omega (arith, ap length (to_end v from) ∙ length-drop from v, k.if-v-gt-LONGEST.false)
 
 enum-known-lots : tie.Need-enum_known-lots
@@ -117,7 +117,7 @@ returns-4 c =
     let f = c in
     let k = f in
     let none = lots_read c.before Other c.in_default-read_lots.is in
-    sym (no_pair (value k) (λ p d n r.
+    sym (no_pair (value c.before.before.before.before) (λ p d n r.
     let e = sym (ap lots_of r.lots) ∙ none in
     let z : ◌≡◌ {A = ℕ} 0 1 = cc in
     omega arith))
@@ -127,13 +127,13 @@ returns-5 c =
     let f = c in
     let e = f in
     let k = e in
-    let v = value k in
-    let written = (front k).1 in
-    sym (read_pair v (price k) (places k) _
+    let v = value c.before.before.before.before in
+    let written = (front c.before.before.before.before).1 in
+    sym (read_pair v (price c.before.before.before.before) (places c.before.before.before.before) _
     (record {
-      inside = omega (arith, (front k).0, inside k);
+      inside = omega (arith, (front c.before.before.before.before).0, inside c.before.before.before.before);
       price = written;
-      range = price_in (up_to_blank v) (price k) (places k) written (omega (arith, e.if-price-eq0.false));
+      range = price_in (up_to_blank v) (price c.before.before.before.before) (places c.before.before.before.before) written (omega (arith, e.if-price-eq0.false));
       lots = lots_told (figure_of traded_form (after_blank v)) _ (lots_read c.before (Lots _) c.in-Number.is);
     }))
 
