@@ -23,6 +23,7 @@ module _ (at : ℕ) (fs : List Field) (h : first_at at fs ≡ Short) where
       go : (l : List Field) → Nothing l → letter_from at tag a b l ≡ NoLetter (refused_at refusal.cut_short at)
       go [] none = refl
       go (Cut ∷ l) cut = refl
+      go (Rattle.rules.specs.Fields.Whole _ _ ∷ l) x5 = elim x5 [ ]
 
 module _ (s : List ℕ) (at t start end : ℕ) (k : Stands s at t start end) where
   pub letter_found : (tag a b : ℕ) →

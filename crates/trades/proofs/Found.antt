@@ -29,6 +29,7 @@ module _ (at : ℕ) (fs : List Field) (h : first_at at fs ≡ Short) where
       go : (l : List Field) → Nothing l → trades_from x long s at sum gain o l ≡ Refused (refused_at refusal.cut_short at)
       go [] none = refl
       go (Cut ∷ l) cut = refl
+      go (Rattle.rules.specs.Fields.Whole _ _ ∷ l) x6 = elim x6 [ ]
 
 module _ (s : List ℕ) (at t start end : ℕ) (k : Stands s at t start end) where
   pub trades_found : (x : ℕ) (long : Bool) (p : Fen) (sum : ℕ) (gain : ℤ) (o : Order) →

@@ -29,6 +29,7 @@ next_short at fs h = go fs (nothing at fs h)
     go : (l : List Field) → Nothing l → next_from at l ≡ End
     go [] none = refl
     go (Cut ∷ l) cut = refl
+    go (Whole _ _ ∷ l) x5 = elim x5 [ ]
 
 pub next_found : (s : List ℕ) (at t start end : ℕ) (k : Stands s at t start end) →
     next_from at (fields_of (drop at s)) ≡ cond (is "B" t || is "A" t) (next_of (opening_of (is "B" t) (value s at t start end k)) end) End

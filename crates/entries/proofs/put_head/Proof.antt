@@ -7,25 +7,25 @@ use Rattle.entries.specs.Entries.{report_head_length}
 use Rattle.entries.proofs.put_head.Statement.{statement}
 use Rattle.entries.proofs.put_head.Tie as tie
 
-put-number-field-requires : tie.Need-put-number-field-requires
+put-number-field-requires : tie.Need-put_number_field-second-requires
 put-number-field-requires c κs =
-    let start = c.before.before.args in
+    let start = c.args in
     omega (arith, report_head_length start.total start.residue)
 
-put-number-field-requires-2 : tie.Need-put-number-field-requires-2
+put-number-field-requires-2 : tie.Need-put_number_field-requires
 put-number-field-requires-2 c κs =
-    let start = c.before.before.before.before.before.before.args in
+    let start = c.args in
     omega (arith, report_head_length start.total start.residue)
 
-same_length : tie.Need-same-length
+same_length : tie.Need-shape_of-out
 same_length c = search rules
 
 returns : tie.Need-returns
 returns c =
-    let second = c.before.before in
-    let first = second.before.before.before.before in
-    join first.put-number-field.ensures second.put-number-field2.ensures (omega arith)
+    let second = c in
+    let first = second in
+    join first.put_number_field-second.ensures second.put_number_field.ensures (omega arith)
 
-pub put-head-spec : {M : Type 1} → statement M
-put-head-spec =
+pub put_head_spec : {M : Type 1} → statement M
+put_head_spec =
     tie.close (tie.spec put-number-field-requires put-number-field-requires-2 same_length returns)

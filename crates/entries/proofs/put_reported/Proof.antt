@@ -12,31 +12,31 @@ use Rattle.entries.proofs.put_reported.Tie as tie
 room : (c : tie.Start) → c.args.at + reported_length (length c.args.code.now) c.args.offset ≤ length c.args.out.now
 room c = omega (arith, reported_length_lem c.args.code.now c.args.standing c.args.offset)
 
-put-field-requires : tie.Need-put-field-requires
+put-field-requires : tie.Need-put_field-second-requires
 put-field-requires c κs = omega (arith, room c.before.before.before)
 
-put-standing-field-requires : tie.Need-put-standing-field-requires
+put-standing-field-requires : tie.Need-put_standing_field-third-requires
 put-standing-field-requires c κs = omega (arith, room c.before.before.before.before.before.before.before)
 
-put-number-field-requires : tie.Need-put-number-field-requires
+put-number-field-requires : tie.Need-put_number_field-requires
 put-number-field-requires c κs = omega (arith, room c.before.before.before.before.before.before.before.before.before.before.before)
 
-same_length : tie.Need-same-length
+same_length : tie.Need-shape_of-out
 same_length c = search rules
 
 returns : tie.Need-returns
 returns c =
-    let third = c.before.before in
-    let second = third.before.before.before.before in
-    let first = second.before.before.before.before in
-    let fits = room first.before.before.before.before in
+    let third = c in
+    let second = third in
+    let first = second in
+    let fits = room c.before.before.before.before.before.before.before.before.before.before.before.before.before.before in
     join
-    (join first.put-field.ensures second.put-standing-field.ensures (omega (arith, fits)))
-    third.put-number-field.ensures
+    (join first.put_field-second.ensures second.put_standing_field-third.ensures (omega (arith, fits)))
+    third.put_number_field.ensures
     (omega (arith, fits))
 
-pub put-reported-spec : {M : Type 1} → statement M
-put-reported-spec =
+pub put_reported_spec : {M : Type 1} → statement M
+put_reported_spec =
     tie.close
     (tie.spec
     put-field-requires

@@ -7,25 +7,25 @@ use Rattle.entries.specs.Entries.{seat_length_lem}
 use Rattle.entries.proofs.put_seat.Statement.{statement}
 use Rattle.entries.proofs.put_seat.Tie as tie
 
-put-field-requires : tie.Need-put-field-requires
+put-field-requires : tie.Need-put_field-second-requires
 put-field-requires c κs =
-    let start = c.before.before.before.args in
+    let start = c.args in
     omega (arith, seat_length_lem start.code.now start.lots)
 
-put-number-field-requires : tie.Need-put-number-field-requires
+put-number-field-requires : tie.Need-put_number_field-requires
 put-number-field-requires c κs =
-    let start = c.before.before.before.before.before.before.before.args in
+    let start = c.args in
     omega (arith, seat_length_lem start.code.now start.lots)
 
-same_length : tie.Need-same-length
+same_length : tie.Need-shape_of-out
 same_length c = search rules
 
 returns : tie.Need-returns
 returns c =
-    let second = c.before.before in
-    let first = second.before.before.before.before in
-    let start = first.before.before.before.before.args in
-    join first.put-field.ensures second.put-number-field.ensures (omega (arith, seat_length_lem start.code.now start.lots))
+    let second = c in
+    let first = second in
+    let start = first.args in
+    join first.put_field-second.ensures second.put_number_field.ensures (omega (arith, seat_length_lem start.code.now start.lots))
 
-pub put-seat-spec : {M : Type 1} → statement M
-put-seat-spec = tie.close (tie.spec put-field-requires put-number-field-requires same_length returns)
+pub put_seat_spec : {M : Type 1} → statement M
+put_seat_spec = tie.close (tie.spec put-field-requires put-number-field-requires same_length returns)

@@ -21,36 +21,36 @@ apart : {at m r x y z k : ℕ} {s a b c : List ℕ} → Wrote at s a b m → Wro
     → Wrote at (s ++ (x ∷ []) ++ (k ∷ []) ++ (z ∷ [])) a c r
 apart first second h e = simp append_assoc (rw (← e) (join first second h))
 
-put-bytes-requires : tie.Need-put-bytes-requires
+put-bytes-requires : tie.Need-put_bytes-blank-requires
 put-bytes-requires c κs = omega (arith, room c.before.before.before)
 
-letter-of-requires : tie.Need-letter-of-requires
+letter-of-requires : tie.Need-letter_of-requires
 letter-of-requires c κs = search rules
 
-put-three-requires : tie.Need-put-three-requires
+put-three-requires : tie.Need-put_three-number-requires
 put-three-requires c κs = omega (arith, room c.before.before.before.before.before.before.before.before)
 
-put-digits-requires : tie.Need-put-digits-requires
+put-digits-requires : tie.Need-put_digits-feed-requires
 put-digits-requires c κs = omega (arith, room c.before.before.before.before.before.before.before.before.before.before.before.before)
 
-put-byte-requires : tie.Need-put-byte-requires
+put-byte-requires : tie.Need-put_byte-requires
 put-byte-requires c κs = omega (arith, room c.before.before.before.before.before.before.before.before.before.before.before.before.before.before.before.before)
 
-same_length : tie.Need-same-length
+same_length : tie.Need-shape_of-out
 same_length c = search rules
 
 returns : tie.Need-returns
 returns c =
-    let feed = c.before.before in
-    let number = feed.before.before.before.before in
-    let letter = number.before.before.before.before in
-    let code = letter.before.before.before.before.before in
-    let fits = room code.before.before.before.before in
-    let named = apart code.put_bytes.ensures letter.put_three.ensures (omega (arith, fits)) letter.before.letter_of.ensures in
-    join (join named number.put_digits.ensures (omega (arith, fits))) feed.put_byte.ensures (omega (arith, fits))
+    let feed = c in
+    let number = feed in
+    let letter = number in
+    let code = letter in
+    let fits = room c.before.before.before.before.before.before.before.before.before.before.before.before.before.before.before.before.before.before.before in
+    let named = apart code.put_bytes-blank.ensures letter.put_three-number.ensures (omega (arith, fits)) letter.letter_of.ensures in
+    join (join named number.put_digits-feed.ensures (omega (arith, fits))) feed.put_byte.ensures (omega (arith, fits))
 
-pub put-printed-spec : {M : Type 1} → statement M
-put-printed-spec =
+pub put_printed_spec : {M : Type 1} → statement M
+put_printed_spec =
     tie.close
     (tie.spec
     put-bytes-requires

@@ -7,20 +7,20 @@ use Rattle.writing.specs.Written.{join}
 use Rattle.printing.proofs.put_worded.Statement.{statement}
 use Rattle.printing.proofs.put_worded.Tie as tie
 
-put-bytes-requires : tie.Need-put-bytes-requires
-put-bytes-requires c κs = omega (arith, simp length-append at c.before.before.before.requires)
+put-bytes-requires : tie.Need-put_bytes-number-requires
+put-bytes-requires c κs = omega (arith, simp length-append at c.requires)
 
-put-digits-requires : tie.Need-put-digits-requires
-put-digits-requires c κs = omega (arith, simp length-append at c.before.before.before.before.before.before.before.requires)
+put-digits-requires : tie.Need-put_digits-requires
+put-digits-requires c κs = omega (arith, simp length-append at c.requires)
 
-same_length : tie.Need-same-length
+same_length : tie.Need-shape_of-out
 same_length c = search rules
 
 returns : tie.Need-returns
 returns c =
-    let second = c.before.before in
-    let first = second.before.before.before.before in
-    join first.put_bytes.ensures second.put_digits.ensures (omega (arith, simp length-append at first.before.before.before.before.requires))
+    let second = c in
+    let first = second in
+    join first.put_bytes-number.ensures second.put_digits.ensures (omega (arith, simp length-append at first.requires))
 
-pub put-worded-spec : {M : Type 1} → statement M
-put-worded-spec = tie.close (tie.spec put-bytes-requires put-digits-requires same_length returns)
+pub put_worded_spec : {M : Type 1} → statement M
+put_worded_spec = tie.close (tie.spec put-bytes-requires put-digits-requires same_length returns)

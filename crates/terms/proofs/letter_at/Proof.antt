@@ -23,9 +23,9 @@ use Rattle.terms.proofs.letter_at.Statement.{statement}
 use Rattle.terms.proofs.letter_at.Tie as tie
 
 -- the field that was found
-module _ (c : tie.After-known-told) where
+module _ (c : tie.In-Field) where
   abbrev start_of : tie.Start
-  start_of = c.before.before.before.before.before
+  start_of = c.before.before.before
 
   abbrev book : List ℕ
   book = start_of.args.book.now
@@ -34,19 +34,19 @@ module _ (c : tie.After-known-told) where
   at = start_of.args.at
 
   abbrev tag : ℕ
-  tag = c.before.found.given.0.0
+  tag = c.in-Field.found
 
   abbrev start : ℕ
-  start = c.before.found.given.0.1.0
+  start = c.in-Field.start
 
   abbrev end : ℕ
-  end = c.before.found.given.0.1.1.0
+  end = c.in-Field.end
 
   abbrev answer : LetterAt
   answer = letter_from at start_of.args.tag start_of.args.first start_of.args.second (fields_of (drop at book))
 
   there : Stands book at tag start end
-  there = stands book at _ _ _ (sym c.before.before.before.field_at.ensures ∙ c.before.found.given.1)
+  there = stands book at _ _ _ (sym c.field_at.ensures ∙ c.in-Field.is)
 
   -- it has the tag, and its value is compared
   found : tag ≡ start_of.args.tag → answer ≡ letter_at_of at start_of.args.first start_of.args.second end (take (end - start) (drop start book))
@@ -66,59 +66,59 @@ module _ (c : tie.After-known-told) where
       let o : (length n ≡ 1) → ⊥ = λ (z : length n ≡ 1). e (let w : end - start ≡ 1 = sym there.size ∙ z in let l : start ≤ end = there.order in omega arith) in
       found t ∙ letter_long at _ _ end n o
 
-field-at-requires : tie.Need-field-at-requires
+field-at-requires : tie.Need-field_at-requires
 field-at-requires c κs = search rules
 
-enum-known-found : tie.Need-enum-known-found
+enum-known-found : tie.Need-enum_known-found
 enum-known-found c = search rules
 
-enum_told : tie.Need-enum-told
+enum_told : tie.Need-enum_told-1
 enum_told c = search rules
 
-no-letter-requires : tie.Need-no-letter-requires
+no-letter-requires : tie.Need-no_letter-requires
 no-letter-requires c κs = search rules
 
-returns : tie.Need-returns
+returns : tie.Need-returns-in_default
 returns c =
-    let b = c.before.before.before in
-    let a = b.before.before.args in
-    c.no_letter.ensures ∙ sym (letter_short a.at (fields_of (drop a.at a.book.now)) (sym b.field_at.ensures ∙ c.before.enum_told.given.1) _ _ _)
+    let b = c in
+    let a = b.args in
+    c.no_letter.ensures ∙ sym (letter_short a.at (fields_of (drop a.at a.book.now)) (sym b.field_at.ensures ∙ c.in_default.is) _ _ _)
 
-no-letter-requires-2 : tie.Need-no-letter-requires-2
+no-letter-requires-2 : tie.Need-no_letter-requires-then-found-tag
 no-letter-requires-2 c κs = search rules
 
-returns-2 : tie.Need-returns-2
-returns-2 c = let k = c.before.before in c.no-letter2.ensures ∙ simp (letter_found (book k) (at k) (tag k) (start k) (end k) (there k) (start_of k).args.tag (start_of k).args.first (start_of k).args.second, ne_eqb _ _ c.before.if1.true)
+returns-2 : tie.Need-returns-then-found-tag
+returns-2 c = let k = c in c.no_letter-then-found-tag.ensures ∙ simp (letter_found (book c.before.before) (at c.before.before) (tag c.before.before) (start c.before.before) (end c.before.before) (there c.before.before) (start_of c.before.before).args.tag (start_of c.before.before).args.first (start_of c.before.before).args.second, ne_eqb _ _ c.if-found-tag.true)
 
-add-if2 : tie.Need-overflow-add-if2
+add-if2 : tie.Need-overflow_add-start
 add-if2 c = let k = there c.before in omega (arith, k.order, k.inside, k.begins)
 
-no-letter-requires-3 : tie.Need-no-letter-requires-3
+no-letter-requires-3 : tie.Need-no_letter-requires-then-end-start
 no-letter-requires-3 c κs = search rules
 
-returns-3 : tie.Need-returns-3
-returns-3 c = let e = c.before.before in c.no-letter3.ensures ∙ sym (another e.before e.if1.false c.before.if2.true)
+returns-3 : tie.Need-returns-then-end-start
+returns-3 c = let e = c in c.no_letter-then-end-start.ensures ∙ sym (another c.before.before.before e.if-found-tag.false c.if-end-start.true)
 
-shared-slice-read-if3 : tie.Need-shared-slice-read-if3
-shared-slice-read-if3 c = omega (arith, (there c.before.before.before).inside, c.before.if2.false)
+shared-slice-read-if3 : tie.Need-bounds-book-start
+shared-slice-read-if3 c = omega (arith, (there c.before.before.before).inside, c.if-end-start.false)
 
-returns-4 : tie.Need-returns-4
-returns-4 c = let e = c.before.before in simp (one e.before.before e.before.if1.false e.if2.false, eq-eqb _ _ c.if3.true)
+returns-4 : tie.Need-returns-then-book-start
+returns-4 c = let e = c in simp (one c.before.before.before.before e.if-found-tag.false e.if-end-start.false, eq-eqb _ _ c.if-book-start.true)
 
-shared-slice-read-if4 : tie.Need-shared-slice-read-if4
-shared-slice-read-if4 c = let e = c.before.before.before in omega (arith, (there e.before.before).inside, e.if2.false)
+shared-slice-read-if4 : tie.Need-bounds-book-start-2
+shared-slice-read-if4 c = let e = c in omega (arith, (there c.before.before.before.before.before).inside, e.if-end-start.false)
 
-returns-5 : tie.Need-returns-5
-returns-5 c = let f = c.before.before in let e = f.before.before in simp (one e.before.before e.before.if1.false e.if2.false, ne_eqb _ _ f.if3.false, eq-eqb _ _ c.if4.true)
+returns-5 : tie.Need-returns-then-book-start-2
+returns-5 c = let f = c in let e = f in simp (one c.before.before.before.before.before.before e.if-found-tag.false e.if-end-start.false, ne_eqb _ _ f.if-book-start.false, eq-eqb _ _ c.if-book-start-2.true)
 
-no-letter-requires-4 : tie.Need-no-letter-requires-4
+no-letter-requires-4 : tie.Need-no_letter-requires-2
 no-letter-requires-4 c κs = search rules
 
-returns-6 : tie.Need-returns-6
-returns-6 c = let f = c.before.before.before in let e = f.before.before in c.no-letter4.ensures ∙ simp (one e.before.before e.before.if1.false e.if2.false, ne_eqb _ _ f.if3.false, ne_eqb _ _ c.before.if4.false)
+returns-6 : tie.Need-returns
+returns-6 c = let f = c in let e = f in c.no_letter-2.ensures ∙ simp (one c.before.before.before.before.before.before.before e.if-found-tag.false e.if-end-start.false, ne_eqb _ _ f.if-book-start.false, ne_eqb _ _ c.if-book-start-2.false)
 
-pub letter-at-spec : {M : Type 1} → statement M
-letter-at-spec =
+pub letter_at_spec : {M : Type 1} → statement M
+letter_at_spec =
     tie.close
     (tie.spec
     field-at-requires

@@ -12,64 +12,64 @@ use Rattle.terms.proofs.prices_after.Statement.{statement}
 use Rattle.terms.proofs.prices_after.Tie as tie
 
 -- S is read with the decimals of X
-read-s : (f : tie.After-figure-at) → let a = f.before.before.before.args in
-    f.figure_at.result ≡ figure_from a.at (code "S") (price_form a.decimals) (fields_of (drop a.at a.book.now))
+read-s : (f : tie.After-figure_at-s) → let a = f.args in
+    f.figure_at-s.result ≡ figure_from a.at (code "S") (price_form a.decimals) (fields_of (drop a.at a.book.now))
 read-s f =
-    let a = f.before.before.before.args in
-    f.figure_at.ensures ∙ ap (λ (form : Form). figure_from a.at (code "S") form (fields_of (drop a.at a.book.now))) f.before.price_form.ensures
+    let a = f.args in
+    f.figure_at-s.ensures ∙ ap (λ (form : Form). figure_from a.at (code "S") form (fields_of (drop a.at a.book.now))) f.price_form.ensures
 
-price-form-requires : tie.Need-price-form-requires
+price-form-requires : tie.Need-price_form-requires
 price-form-requires c κs = search rules
 
-figure-at-requires : tie.Need-figure-at-requires
+figure-at-requires : tie.Need-figure_at-s-requires
 figure-at-requires c κs = search rules
 
-enum-known-s : tie.Need-enum-known-s
+enum-known-s : tie.Need-enum_known-s
 enum-known-s c = search rules
 
-enum_told : tie.Need-enum-told
+enum_told : tie.Need-enum_told-1
 enum_told c = search rules
 
-refusal-in-requires : tie.Need-refusal-in-requires
+refusal-in-requires : tie.Need-refusal_in-requires
 refusal-in-requires c κs = search rules
 
-returns : tie.Need-returns
+returns : tie.Need-returns-in_default
 returns c =
-    let t = c.before.enum_told.given.1 in
-    simp (c.refusal_in.ensures, t, sym (read-s c.before.before.before) ∙ t)
+    let t = c.in_default.is in
+    simp (c.refusal_in.ensures, t, sym (read-s c.before.before) ∙ t)
 
-figure-at-requires-2 : tie.Need-figure-at-requires-2
+figure-at-requires-2 : tie.Need-figure_at-l-requires
 figure-at-requires-2 c κs = search rules
 
-enum-known-l : tie.Need-enum-known-l
+enum-known-l : tie.Need-enum_known-l
 enum-known-l c = search rules
 
-enum-told-2 : tie.Need-enum-told-2
+enum-told-2 : tie.Need-enum_told-in_default-l
 enum-told-2 c = search rules
 
-refusal-in-requires-2 : tie.Need-refusal-in-requires-2
+refusal-in-requires-2 : tie.Need-refusal_in-requires-in_default-l
 refusal-in-requires-2 c κs = search rules
 
-returns-2 : tie.Need-returns-2
+returns-2 : tie.Need-returns-in_default-l
 returns-2 c =
-    let xs = c.before.before.before.before.before in
-    let es = sym (read-s xs.before.before) ∙ xs.s.given.1 in
-    let t = c.before.enum-told2.given.1 in
-    simp (c.refusal-in2.ensures, t, es, sym c.before.before.before.figure-at2.ensures ∙ t)
+    let xs = c in
+    let es = sym (read-s c.before.before.before.before) ∙ xs.in-Value.is in
+    let t = c.in_default-l.is in
+    simp (c.refusal_in-in_default-l.ensures, t, es, sym c.figure_at-l.ensures ∙ t)
 
-edges-after-requires : tie.Need-edges-after-requires
+edges-after-requires : tie.Need-edges_after-requires
 edges-after-requires c κs = search rules
 
-returns-3 : tie.Need-returns-3
+returns-3 : tie.Need-returns
 returns-3 c =
-    let xl = c.before.before in
-    let el = sym xl.before.before.figure-at2.ensures ∙ xl.l.given.1 in
-    let xs = xl.before.before.before.before in
-    let es = sym (read-s xs.before.before) ∙ xs.s.given.1 in
-    c.edges-after.ensures ∙ simp (es, el)
+    let xl = c in
+    let el = sym xl.figure_at-l.ensures ∙ xl.in-Value-l.is in
+    let xs = xl in
+    let es = sym (read-s c.before.before.before.before) ∙ xs.in-Value.is in
+    c.edges_after.ensures ∙ simp (es, el)
 
-pub prices-after-spec : {M : Type 1} → statement M
-prices-after-spec =
+pub prices_after_spec : {M : Type 1} → statement M
+prices_after_spec =
     tie.close
     (tie.spec
     price-form-requires
