@@ -10,68 +10,78 @@ use Rattle.days.proofs.read_head.Statement.{statement}
 use Rattle.days.proofs.read_head.Tie as tie
 
 -- the first line feed
-feed : (c : tie.After-first_at-end) → c.first_at-end.result ≡ length (up_to_byte 10 c.args.s.now)
-feed c = c.first_at-end.ensures
+feed : (c : tie.After-first-at) → c.first-at.result ≡ length (up_to_byte 10 c.before.before.args.s.now)
+feed c = c.first-at.ensures
 
-first-at-requires : tie.Need-first_at-end-requires
+first-at-requires : tie.Need-first-at-requires
 first-at-requires c κs = search rules
 
-returns : tie.Need-returns-then-end-s
-returns c = head_none c.args.s.now _ (feed c.before) c.if-end-s.true
+returns : tie.Need-returns
+returns c = head_none c.before.before.before.args.s.now _ (feed c.before) c.if1.true
 
-slice-aggregate-is : tie.Need-slice_bounds-is-end
-slice-aggregate-is c = let f = c in line_size f.args.s.now _ (feed c.before)
+slice-aggregate-is : tie.Need-slice-aggregate-is
+slice-aggregate-is c = let f = c.before.before in line_size f.before.before.args.s.now _ (feed f)
 
-slice-aggregate-is-2 : tie.Need-slice_bounds-is-end-3
+slice-aggregate-is-2 : tie.Need-slice-aggregate-is-2
 slice-aggregate-is-2 c = search rules
 
 is-requires : tie.Need-is-requires
 is-requires c κs = search rules
 
-returns-2 : tie.Need-returns-then-is
+add-t13 : tie.Need-overflow-add-t13
+add-t13 c =
+    let e = c.before.before.before.before in
+    omega (arith, inside e.before.before.before.args.s.now _ (feed e.before) e.if1.false)
+
+returns-2 : tie.Need-returns-2
 returns-2 c =
-    let i = c in
-    let e = i in
-    head_gold e.args.s.now _ (feed c.before.before.before.before.before) e.if-end-s.false (sym i.is.ensures ∙ c.if-is.true)
+    let i = c.before in
+    let e = i.before.before.before in
+    head_gold e.before.before.before.args.s.now _ (feed e.before) e.if1.false (sym i.is.ensures ∙ c.if2.true)
+
+slice-aggregate-is-3 : tie.Need-slice-aggregate-is-3
+slice-aggregate-is-3 c = let f = c.before.before.before.before.before.before in line_size f.before.before.args.s.now _ (feed f)
+
+slice-aggregate-is-4 : tie.Need-slice-aggregate-is-4
+slice-aggregate-is-4 c = search rules
 
 is-requires-2 : tie.Need-is-requires-2
 is-requires-2 c κs = search rules
 
-add-t20 : tie.Need-overflow_add-result-then-is-2
+add-t20 : tie.Need-overflow-add-t20
 add-t20 c =
-    let e = c in
-    omega (arith, inside e.args.s.now _ (feed c.before.before.before.before.before.before.before.before.before) e.if-end-s.false)
+    let e = c.before.before.before.before.before.before.before.before in
+    omega (arith, inside e.before.before.before.args.s.now _ (feed e.before) e.if1.false)
 
-returns-3 : tie.Need-returns-then-is-2
+returns-3 : tie.Need-returns-3
 returns-3 c =
-    let j = c in
-    let l = j in
-    let i = l in
-    let e = i in
-    head_silver e.args.s.now _ (feed c.before.before.before.before.before.before.before.before.before) e.if-end-s.false (sym i.is.ensures ∙ l.if-is.false) (sym j.is-2.ensures ∙ c.if-is-2.true)
+    let j = c.before in
+    let l = j.before.before.before in
+    let i = l.before in
+    let e = i.before.before.before in
+    head_silver e.before.before.before.args.s.now _ (feed e.before) e.if1.false (sym i.is.ensures ∙ l.if2.false) (sym j.is2.ensures ∙ c.if3.true)
 
-returns-4 : tie.Need-returns
+returns-4 : tie.Need-returns-4
 returns-4 c =
-    let j = c in
-    let l = j in
-    let i = l in
-    let e = i in
-    head_other e.args.s.now _ (feed c.before.before.before.before.before.before.before.before.before) e.if-end-s.false (sym i.is.ensures ∙ l.if-is.false) (sym j.is-2.ensures ∙ c.if-is-2.false)
+    let j = c.before in
+    let l = j.before.before.before in
+    let i = l.before in
+    let e = i.before.before.before in
+    head_other e.before.before.before.args.s.now _ (feed e.before) e.if1.false (sym i.is.ensures ∙ l.if2.false) (sym j.is2.ensures ∙ c.if3.false)
 
-new-overflow_add-result : tie.Need-overflow_add-result
-new-overflow_add-result c = search rules
-
-pub read_head_spec : {M : Type 1} → statement M
-read_head_spec =
+pub read-head-spec : {M : Type 1} → statement M
+read-head-spec =
     tie.close
     (tie.spec
     first-at-requires
     returns
     slice-aggregate-is
-    is-requires
-    new-overflow_add-result
-    returns-2
     slice-aggregate-is-2
+    is-requires
+    add-t13
+    returns-2
+    slice-aggregate-is-3
+    slice-aggregate-is-4
     is-requires-2
     add-t20
     returns-3

@@ -63,18 +63,18 @@ is-trade-requires : tie.Need-is_trade-requires
 is-trade-requires c κs = search rules
 
 returns-2 : tie.Need-returns-then-not-is_trade
-returns-2 c = let t = c in simp (turned c.before.before, sym t.is_trade.ensures ∙ not_true _ c.if-not-is_trade.true)
+returns-2 c = let t = c in simp (turned c.before.before, sym t.is_trade.ensures ∙ c.if-not-is_trade.true)
 
 -- what stands there was read before
-module _ (c : tie.After-is_trade) (h : not c.is-trade.result ≡ false) where
+module _ (c : tie.After-is_trade) (h : c.is_trade.result ≡ true) where
   abbrev found : tie.In-Field
   found = c.before
 
   a_trade : (is "B" (tag found) || is "A" (tag found)) ≡ true
-  a_trade = sym c.is_trade.ensures ∙ not_false _ h
+  a_trade = sym c.is_trade.ensures ∙ h
 
   is-good : good (opening_of (is "B" (tag found)) (take (end found - start found) (drop (start found) (book found)))) ≡ true
-  is-good = found_good (book found) (start_of found).args.at (tag found) (start found) (end found) (there found) (start_of found).pre a_trade
+  is-good = found_good (book found) (start_of found).args.at (tag found) (start found) (end found) (there found) (start_of found).requires a_trade
 
 sub-read-again : tie.Need-slice_bounds-read_again-count
 sub-read-again c = order c.before.before

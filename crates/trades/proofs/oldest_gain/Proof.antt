@@ -51,16 +51,16 @@ module _ (c : tie.After-lesser-n invariant-loop-left decreases-loop-left) where
 
   -- the lots skipped before
   abbrev passed : ℕ
-  passed = (start told).args.skip - (at-loop told).loop.left
+  passed = (start told).args.skip - (at-loop told).loop-left.left
 
-  part : c.lesser-n.result ≡ min (lots_on (start told).args.long (trade told)) (at-loop told).loop.left
-  part = c.lesser-n.ensures ∙ ap (λ (n : ℕ). min n (at-loop told).loop.left) c.lots_on.ensures
+  part : c.lesser-n.result ≡ min (lots_on (start told).args.long (trade told)) (at-loop told).loop-left.left
+  part = c.lesser-n.ensures ∙ ap (λ (n : ℕ). min n (at-loop told).loop-left.left) c.lots_on.ensures
 
-  few : (c.lesser-n.result ≤ 1000000) × (c.lesser-n.result ≤ (at-loop told).loop.left)
+  few : (c.lesser-n.result ≤ 1000000) × (c.lesser-n.result ≤ (at-loop told).loop-left.left)
   few = (omega (arith, part, lots_on_most (start told).args.long (trade told), (tells told).lots_most), omega (arith, part))
 
   bounded : passed + c.lesser-n.result ≤ 68719476736
-  bounded = omega (arith, few.0, (tells told).on, (tells told).inside, (start told).pre.0, (at-loop told).loop.inv.1)
+  bounded = omega (arith, few.0, (tells told).on, (tells told).inside, (start told).requires.0, (at-loop told).loop-left.invariant.1)
 
 loop-holds : tie.Need-loop-left-init invariant-loop-left decreases-loop-left
 loop-holds c =
@@ -82,7 +82,7 @@ returns c =
     let l = n.loop-left in
     let a = n.args in
     let none : trades_at a.book.now l.at ≡ [] = next_tells a.book.now l.at End (sym c.in_default.is ∙ n.next_trade.ensures) in
-    sym (l.invariant.4 ∙ rw none (+ℤ_idr (to_z w64 l.gain)))
+    sym (l.invariant.4 ∙ rw none (+ℤ_idr (to_z w64 l.gain-bits)))
 
 lots-on-requires : tie.Need-lots_on-requires invariant-loop-left decreases-loop-left
 lots-on-requires c κs = search rules
@@ -91,13 +91,13 @@ lesser-requires : tie.Need-lesser-n-requires invariant-loop-left decreases-loop-
 lesser-requires c κs = search rules
 
 gain-of-requires : tie.Need-gain_of-gain-requires invariant-loop-left decreases-loop-left
-gain-of-requires c κs = record { settlement = (start (told c.before)).pre.1.0; price = (tells (told c.before)).price_most; lots = omega (arith, (few c.before).0) }
+gain-of-requires c κs = record { settlement = (start (told c.before)).requires.1.0; price = (tells (told c.before)).price_most; lots = omega (arith, (few c.before).0) }
 
 add-gain : tie.Need-overflow_add-gain invariant-loop-left decreases-loop-left
 add-gain c =
     let k = c in
-    let l = (at-loop (told c.before.before)).loop in
-    sum_fits l.gain c.gain_of-gain.result (passed c.before.before) k.lesser-n.result l.inv.2 c.gain_of-gain.ensures.size (bounded c.before.before)
+    let l = (at-loop (told c.before.before)).loop-left in
+    sum_fits l.gain-bits c.gain_of-gain.result (passed c.before.before) k.lesser-n.result l.invariant.2 c.gain_of-gain.ensures.size (bounded c.before.before)
 
 sub-left : tie.Need-overflow_sub-left invariant-loop-left decreases-loop-left
 sub-left c = (few c.before.before).1
@@ -109,21 +109,21 @@ loop-again : tie.Need-loop-left-preserved invariant-loop-left decreases-loop-lef
 loop-again c =
     let k = c in
     let t = told c.before.before in
-    let l = (at-loop t).loop in
+    let l = (at-loop t).loop-left in
     let a = (start t).args in
     let n = k.lesser-n.result in
-    let size = sum_size l.gain c.gain_of-gain.result (passed c.before.before) n l.inv.2 c.gain_of-gain.ensures.size (bounded c.before.before) in
-    let e = sum_is l.gain c.gain_of-gain.result (passed c.before.before) n l.inv.2 c.gain_of-gain.ensures.size (bounded c.before.before) in
-    let m : a.skip - (l.left - n) ≡ passed c.before.before + n = omega (arith, (few c.before.before).1, l.inv.0) in
+    let size = sum_size l.gain-bits c.gain_of-gain.result (passed c.before.before) n l.invariant.2 c.gain_of-gain.ensures.size (bounded c.before.before) in
+    let e = sum_is l.gain-bits c.gain_of-gain.result (passed c.before.before) n l.invariant.2 c.gain_of-gain.ensures.size (bounded c.before.before) in
+    let m : a.skip - (l.left - n) ≡ passed c.before.before + n = omega (arith, (few c.before.before).1, l.invariant.0) in
     let rest = trades_at a.book.now (end t) in (
-      omega (arith, l.inv.0),
-      omega (arith, (few c.before.before).0, (tells t).on, l.inv.1),
+      omega (arith, l.invariant.0),
+      omega (arith, (few c.before.before).0, (tells t).on, l.invariant.1),
       rw m size,
-      (tells t).readable l.inv.3,
-      l.inv.4 ∙ rw ((tells t).list, ← part c.before.before)
-          (sym (+ℤ_assoc (to_z w64 l.gain) _ _)
+      (tells t).readable l.invariant.3,
+      l.invariant.4 ∙ rw ((tells t).list, ← part c.before.before)
+          (sym (+ℤ_assoc (to_z w64 l.gain-bits) _ _)
           ∙ ap (λ (z : ℤ). z +ℤ oldest_of a.long a.settlement (l.left - n) rest)
-          (sym (e ∙ ap (λ (z : ℤ). to_z w64 l.gain +ℤ z) c.gain_of-gain.ensures.exact))),
+          (sym (e ∙ ap (λ (z : ℤ). to_z w64 l.gain-bits +ℤ z) c.gain_of-gain.ensures.exact))),
     )
 
 returns-2 : tie.Need-returns invariant-loop-left decreases-loop-left
@@ -132,8 +132,8 @@ returns-2 c =
     let a = c.args in
     let z : l.left ≡ 0 = omega (arith, c.loop-left-test.false) in
     let ts = trades_at a.book.now l.at in
-    sym (l.invariant.4 ∙ ap (λ (n : ℕ). to_z w64 l.gain +ℤ oldest_of a.long a.settlement n ts) z
-    ∙ ap (λ (x : ℤ). to_z w64 l.gain +ℤ x) (oldest_zero a.long a.settlement ts) ∙ +ℤ_idr (to_z w64 l.gain))
+    sym (l.invariant.4 ∙ ap (λ (n : ℕ). to_z w64 l.gain-bits +ℤ oldest_of a.long a.settlement n ts) z
+    ∙ ap (λ (x : ℤ). to_z w64 l.gain-bits +ℤ x) (oldest_zero a.long a.settlement ts) ∙ +ℤ_idr (to_z w64 l.gain-bits))
 
 pub oldest_gain_spec : {M : Type 1} → statement M
 oldest_gain_spec =

@@ -73,7 +73,7 @@ module _ (c : tie.In-Field invariant-loop-tag decreases-loop-tag) where
   turned :
       let a = start_of.args in
       let l = at-loop.loop-tag in
-      let gain = to_z w64 l.gain in
+      let gain = to_z w64 l.gain-bits in
       trades_from a.decimals a.long a.settlement a.first 0 (pos 0) none_yet (fields_of (drop a.first book))
       ≡ cond (is "C" tag || is "Z" tag) (Closed l.at l.opened gain l.order.kept)
       (cond (is "B" tag || is "A" tag)
@@ -83,7 +83,7 @@ module _ (c : tie.In-Field invariant-loop-tag decreases-loop-tag) where
   turned =
       let a = start_of.args in
       let l = at-loop.loop-tag in
-      l.inv.2 ∙ trades_found book l.at tag start end there a.decimals a.long a.settlement l.opened (to_z w64 l.gain) l.order
+      l.invariant.2 ∙ trades_found book l.at tag start end there a.decimals a.long a.settlement l.opened (to_z w64 l.gain-bits) l.order
 
   -- the book is short enough for the sums
   short : end ≤ 60000
@@ -113,17 +113,17 @@ module _ (c : tie.In-Made invariant-loop-tag decreases-loop-tag) where
   -- it is judged by them and by its price, and the reading goes on from its end
   judged :
       let a = (start_of field_of_lem).args in
-      let l = (at-loop field_of_lem).loop in
+      let l = (at-loop field_of_lem).loop-tag in
       let n = lots_on a.long made_of in
       trades_from a.decimals a.long a.settlement a.first 0 (pos 0) none_yet (fields_of (drop a.first (book field_of_lem)))
       ≡ cond (eqb written a.decimals)
       (cond (astray a.settlement made_of.price) (Refused (refused_at refusal.astray l.at))
-      (trades_from a.decimals a.long a.settlement (end field_of_lem) (l.opened + n) (to_z w64 l.gain +ℤ gain_of a.long a.settlement made_of.price n) (order_after a.long l.order made_of) (fields_of (drop (end field_of_lem) (book field_of_lem)))))
+      (trades_from a.decimals a.long a.settlement (end field_of_lem) (l.opened + n) (to_z w64 l.gain-bits +ℤ gain_of a.long a.settlement made_of.price n) (order_after a.long l.order made_of) (fields_of (drop (end field_of_lem) (book field_of_lem)))))
       (Refused (refused_at refusal.malformed l.at))
   judged =
       let o = opening_read.before.before in
       let t = o.before in
-      simp (turned field_of_lem, sym t.is_closing.ensures ∙ t.if-is_closing.false, sym t.is_trade.ensures ∙ not_false _ o.if-not-is_trade.false, was-made)
+      simp (turned field_of_lem, sym t.is_closing.ensures ∙ t.if-is_closing.false, sym t.is_trade.ensures ∙ o.if-not-is_trade.false, was-made)
 
 -- and counted
 module _ (c : tie.After-lots_on-n invariant-loop-tag decreases-loop-tag) where
@@ -139,24 +139,24 @@ module _ (c : tie.After-lots_on-n invariant-loop-tag decreases-loop-tag) where
   -- it is counted, and the reading goes on from its end
   counts :
       let a = (start_of field-read).args in
-      let l = (at-loop field-read).loop in
+      let l = (at-loop field-read).loop-tag in
       let n = c.lots_on-n.result in
       trades_from a.decimals a.long a.settlement a.first 0 (pos 0) none_yet (fields_of (drop a.first (book field-read)))
       ≡ trades_from a.decimals a.long a.settlement (end field-read) (l.opened + n)
-      (to_z w64 l.gain +ℤ gain_of a.long a.settlement made.price n)
+      (to_z w64 l.gain-bits +ℤ gain_of a.long a.settlement made.price n)
       (order_after a.long l.order made)
       (fields_of (drop (end field-read) (book field-read)))
   counts =
       let a = (start_of field-read).args in
-      let l = (at-loop field-read).loop in
+      let l = (at-loop field-read).loop-tag in
       simp (judged right, eq-eqb (written right) a.decimals c.if-written-decimals.false, sym c.astray.ensures ∙ c.if-astray.false)
-      (ap (λ (n : ℕ). trades_from a.decimals a.long a.settlement (end field-read) (l.opened + n) (to_z w64 l.gain +ℤ gain_of a.long a.settlement made.price n) (order_after a.long l.order made) (fields_of (drop (end field-read) (book field-read)))) (sym c.lots_on-n.ensures))
+      (ap (λ (n : ℕ). trades_from a.decimals a.long a.settlement (end field-read) (l.opened + n) (to_z w64 l.gain-bits +ℤ gain_of a.long a.settlement made.price n) (order_after a.long l.order made) (fields_of (drop (end field-read) (book field-read)))) (sym c.lots_on-n.ensures))
 
   few : c.lots_on-n.result ≤ 1000000
   few = omega (arith, c.lots_on-n.ensures, lots_on_most (start_of field-read).args.long made, (range right).lots_most)
 
-  bounded : (at-loop field-read).loop.opened + c.lots_on-n.result ≤ 68719476736
-  bounded = omega (arith, few, short field-read, (there field-read).begins, (there field-read).order, (at-loop field-read).loop.inv.0)
+  bounded : (at-loop field-read).loop-tag.opened + c.lots_on-n.result ≤ 68719476736
+  bounded = omega (arith, few, short field-read, (there field-read).begins, (there field-read).order, (at-loop field-read).loop-tag.invariant.0)
 
 loop-holds : tie.Need-loop-tag-init invariant-loop-tag decreases-loop-tag
 loop-holds c = (omega arith, omega arith, refl)
@@ -179,7 +179,7 @@ returns c =
     let l = f.loop-tag in
     let a = f.args in
     c.no_trades.ensures
-    ∙ sym (l.invariant.2 ∙ trades_short l.at (fields_of (drop l.at a.book.now)) (sym f.field_at.ensures ∙ c.in_default.is) a.decimals a.long a.settlement l.opened (to_z w64 l.gain) l.order)
+    ∙ sym (l.invariant.2 ∙ trades_short l.at (fields_of (drop l.at a.book.now)) (sym f.field_at.ensures ∙ c.in_default.is) a.decimals a.long a.settlement l.opened (to_z w64 l.gain-bits) l.order)
 
 is-closing-requires : tie.Need-is_closing-requires invariant-loop-tag decreases-loop-tag
 is-closing-requires c κs = search rules
@@ -194,7 +194,7 @@ no-trades-requires-2 : tie.Need-no_trades-requires-then-not-is_trade invariant-l
 no-trades-requires-2 c κs = search rules
 
 returns-3 : tie.Need-returns-then-not-is_trade invariant-loop-tag decreases-loop-tag
-returns-3 c = let t = c in let k = t in c.no_trades-then-not-is_trade.ensures ∙ simp (turned c.before.before.before.before.before, sym k.is_closing.ensures ∙ t.if-is_closing.false, sym t.is_trade.ensures ∙ not_true _ c.if-not-is_trade.true)
+returns-3 c = let t = c in let k = t in c.no_trades-then-not-is_trade.ensures ∙ simp (turned c.before.before.before.before.before, sym k.is_closing.ensures ∙ t.if-is_closing.false, sym t.is_trade.ensures ∙ c.if-not-is_trade.true)
 
 sub-read-opening : tie.Need-slice_bounds-read_opening-count invariant-loop-tag decreases-loop-tag
 sub-read-opening c = order c.before.before.before.before
@@ -219,7 +219,7 @@ returns-4 : tie.Need-returns-then-written-decimals invariant-loop-tag decreases-
 returns-4 c = let k = c in c.no_trades-then-written-decimals.ensures ∙ simp (judged c.before.before, ne_eqb (written c.before.before) _ c.if-written-decimals.true)
 
 astray-requires : tie.Need-astray-requires invariant-loop-tag decreases-loop-tag
-astray-requires c κs = let k = c in ((start_of (field_of_lem c.before.before)).pre.1, (range c.before.before).price_most)
+astray-requires c κs = let k = c in ((start_of (field_of_lem c.before.before)).requires.1, (range c.before.before).price_most)
 
 no-trades-requires-4 : tie.Need-no_trades-requires-then-astray invariant-loop-tag decreases-loop-tag
 no-trades-requires-4 c κs = search rules
@@ -235,13 +235,13 @@ lots-on-requires : tie.Need-lots_on-n-requires invariant-loop-tag decreases-loop
 lots-on-requires c κs = search rules
 
 gain-of-requires : tie.Need-gain_of-gain-requires invariant-loop-tag decreases-loop-tag
-gain-of-requires c κs = record { settlement = (start_of (field-read c.before)).pre.1; price = (range (right c.before)).price_most; lots = omega (arith, few c.before) }
+gain-of-requires c κs = record { settlement = (start_of (field-read c.before)).requires.1; price = (range (right c.before)).price_most; lots = omega (arith, few c.before) }
 
 add-gain : tie.Need-overflow_add-gain invariant-loop-tag decreases-loop-tag
 add-gain c =
     let b = c in
-    let l = (at-loop (field-read c.before.before)).loop in
-    sum_fits l.gain c.gain_of-gain.result l.opened b.lots_on-n.result l.inv.1 c.gain_of-gain.ensures.size (bounded c.before.before)
+    let l = (at-loop (field-read c.before.before)).loop-tag in
+    sum_fits l.gain-bits c.gain_of-gain.result l.opened b.lots_on-n.result l.invariant.1 c.gain_of-gain.ensures.size (bounded c.before.before)
 
 add-opened : tie.Need-overflow_add-opened invariant-loop-tag decreases-loop-tag
 add-opened c = omega (arith, bounded c.before.before)
@@ -257,7 +257,7 @@ no-trades-requires-5 c κs = search rules
 
 -- a value that is no trade
 returns-6 : tie.Need-returns-in-Comma invariant-loop-tag decreases-loop-tag
-returns-6 c = let o = c in let t = o in let k = t in c.no_trades-in-Comma.ensures ∙ simp (turned c.before.before.before.before.before.before.before.before, sym k.is_closing.ensures ∙ t.if-is_closing.false, sym t.is_trade.ensures ∙ not_false _ o.if-not-is_trade.false, sym o.read_opening.ensures ∙ c.in-Comma.is)
+returns-6 c = let o = c in let t = o in let k = t in c.no_trades-in-Comma.ensures ∙ simp (turned c.before.before.before.before.before.before.before.before, sym k.is_closing.ensures ∙ t.if-is_closing.false, sym t.is_trade.ensures ∙ o.if-not-is_trade.false, sym o.read_opening.ensures ∙ c.in-Comma.is)
 
 enum-told-3 : tie.Need-enum_told-in-Malformed invariant-loop-tag decreases-loop-tag
 enum-told-3 c = search rules
@@ -266,7 +266,7 @@ no-trades-requires-6 : tie.Need-no_trades-requires-in-Malformed invariant-loop-t
 no-trades-requires-6 c κs = search rules
 
 returns-7 : tie.Need-returns-in-Malformed invariant-loop-tag decreases-loop-tag
-returns-7 c = let o = c in let t = o in let k = t in c.no_trades-in-Malformed.ensures ∙ simp (turned c.before.before.before.before.before.before.before.before, sym k.is_closing.ensures ∙ t.if-is_closing.false, sym t.is_trade.ensures ∙ not_false _ o.if-not-is_trade.false, sym o.read_opening.ensures ∙ c.in-Malformed.is)
+returns-7 c = let o = c in let t = o in let k = t in c.no_trades-in-Malformed.ensures ∙ simp (turned c.before.before.before.before.before.before.before.before, sym k.is_closing.ensures ∙ t.if-is_closing.false, sym t.is_trade.ensures ∙ o.if-not-is_trade.false, sym o.read_opening.ensures ∙ c.in-Malformed.is)
 
 loop-less : tie.Need-loop-tag-smaller invariant-loop-tag decreases-loop-tag
 loop-less c = let k = field-read c.before.before.before in omega (arith, (there k).begins, (there k).order, (there k).inside)
@@ -276,15 +276,15 @@ loop-again c =
     let g = c in
     let b = g in
     let k = field-read c.before.before.before in
-    let l = (at-loop k).loop in
+    let l = (at-loop k).loop-tag in
     let a = (start_of k).args in
     let n = b.lots_on-n.result in
-    let e = sum_is l.gain g.gain_of-gain.result l.opened n l.inv.1 g.gain_of-gain.ensures.size (bounded c.before.before.before) in (
-      omega (arith, few c.before.before.before, (there k).begins, (there k).order, l.inv.0),
-      sum_size l.gain g.gain_of-gain.result l.opened n l.inv.1 g.gain_of-gain.ensures.size (bounded c.before.before.before),
+    let e = sum_is l.gain-bits g.gain_of-gain.result l.opened n l.invariant.1 g.gain_of-gain.ensures.size (bounded c.before.before.before) in (
+      omega (arith, few c.before.before.before, (there k).begins, (there k).order, l.invariant.0),
+      sum_size l.gain-bits g.gain_of-gain.result l.opened n l.invariant.1 g.gain_of-gain.ensures.size (bounded c.before.before.before),
       counts c.before.before.before
           ∙ (λ i. trades_from a.decimals a.long a.settlement (end k) (l.opened + n)
-          (sym (e ∙ ap (λ (z : ℤ). to_z w64 l.gain +ℤ z) g.gain_of-gain.ensures.exact) i)
+          (sym (e ∙ ap (λ (z : ℤ). to_z w64 l.gain-bits +ℤ z) g.gain_of-gain.ensures.exact) i)
           (sym c.order_after-order.ensures i) (fields_of (drop (end k) (book k)))),
     )
 
