@@ -44,6 +44,7 @@ key_short keys at fs h = go fs (nothing at fs h)
     go : (fs : List Field) → Nothing fs → key_from keys at fs ≡ NoKey (refused_at refusal.cut_short at)
     go [] none = refl
     go (Cut ∷ fs) cut = refl
+    go (Rattle.rules.specs.Fields.Whole _ _ ∷ fs) x5 = elim x5 [ ]
 
 pub begins_short : (at : ℕ) (fs : List Field) → first_at at fs ≡ Short → begins_seat fs ≡ false
 begins_short at fs h = go fs (nothing at fs h)
@@ -51,6 +52,7 @@ begins_short at fs h = go fs (nothing at fs h)
     go : (fs : List Field) → Nothing fs → begins_seat fs ≡ false
     go [] none = refl
     go (Cut ∷ fs) cut = refl
+    go (Rattle.rules.specs.Fields.Whole _ _ ∷ fs) x5 = elim x5 [ ]
 
 -- one does
 module _ (s : List ℕ) (at t start end : ℕ) (k : Stands s at t start end) where

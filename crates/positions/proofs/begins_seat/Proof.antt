@@ -9,26 +9,26 @@ use borrow.Author.Rules.{rules}
 use Rattle.positions.proofs.begins_seat.Statement.{statement}
 use Rattle.positions.proofs.begins_seat.Tie as tie
 
-field-at-requires : tie.Need-field-at-requires
+field-at-requires : tie.Need-field_at-requires
 field-at-requires c κs = search rules
 
-enum-known-tag : tie.Need-enum-known-tag
+enum-known-tag : tie.Need-enum_known-tag
 enum-known-tag c = search rules
 
-enum_told : tie.Need-enum-told
+enum_told : tie.Need-enum_told-1
 enum_told c = search rules
 
-returns : tie.Need-returns
+returns : tie.Need-returns-in-Field
 returns c =
-    let a = c.before.before.before.before.before.args in
-    let k = stands a.book.now a.at _ _ _ (sym c.before.before.before.field_at.ensures ∙ c.before.tag.given.1) in
+    let a = c.args in
+    let k = stands a.book.now a.at _ _ _ (sym c.field_at.ensures ∙ c.in-Field.is) in
     sym (begins_found a.book.now a.at _ _ _ k)
 
-returns-2 : tie.Need-returns-2
+returns-2 : tie.Need-returns-in-Short
 returns-2 c =
-    let f = c.before.before in
-    let a = f.before.before.args in
-    sym (begins_short a.at (fields_of (drop a.at a.book.now)) (sym f.field_at.ensures ∙ c.enum_told.given.1))
+    let f = c in
+    let a = f.args in
+    sym (begins_short a.at (fields_of (drop a.at a.book.now)) (sym f.field_at.ensures ∙ c.in-Short.is))
 
-pub begins-seat-spec : {M : Type 1} → statement M
-begins-seat-spec = tie.close (tie.spec field-at-requires enum-known-tag enum_told returns returns-2)
+pub begins_seat_spec : {M : Type 1} → statement M
+begins_seat_spec = tie.close (tie.spec field-at-requires enum-known-tag enum_told returns returns-2)

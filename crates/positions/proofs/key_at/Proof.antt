@@ -22,24 +22,24 @@ use Rattle.positions.proofs.key_at.Statement.{statement}
 use Rattle.positions.proofs.key_at.Tie as tie
 
 -- the field that was found
-module _ (c : tie.After-known-told) where
+module _ (c : tie.In-Field) where
   abbrev start_of : tie.Start
-  start_of = c.before.before.before.before.before
+  start_of = c.before.before.before
 
   abbrev book : List ℕ
   book = start_of.args.book.now
 
   abbrev tag : ℕ
-  tag = c.before.tag.given.0.0
+  tag = c.in-Field.tag
 
   abbrev start : ℕ
-  start = c.before.tag.given.0.1.0
+  start = c.in-Field.start
 
   abbrev end : ℕ
-  end = c.before.tag.given.0.1.1.0
+  end = c.in-Field.end
 
   there : Stands book start_of.args.at tag start end
-  there = stands book start_of.args.at _ _ _ (sym c.before.before.before.field_at.ensures ∙ c.before.tag.given.1)
+  there = stands book start_of.args.at _ _ _ (sym c.field_at.ensures ∙ c.in-Field.is)
 
   abbrev before : List ℕ
   before = take start_of.args.count start_of.args.keys.now
@@ -49,90 +49,90 @@ module _ (c : tie.After-known-told) where
   turned = key_found book start_of.args.at tag start end there before
 
 -- the field is an I
-module _ (c : tie.Else1) where
-  abbrev found : tie.After-known-told
+module _ (c : tie.Else-tag-ne-I) where
+  abbrev found : tie.In-Field
   found = c.before
 
   a_seat : is "I" (tag found) ≡ true
-  a_seat = eq-eqb _ _ c.if1.false
+  a_seat = eq-eqb _ _ c.if-tag-ne-I.false
 
   coded : (x : ℕ) (g : Bool) → code_of (take (end found - start found) (drop (start found) (book found))) ≡ Key x → given_in (before found) x ≡ g →
       key_from (before found) (start_of found).args.at (fields_of (drop (start_of found).args.at (book found)))
       ≡ cond g (NoKey (refused_at refusal.seat_twice (start_of found).args.at)) (NewKey x (end found))
   coded x g h e = key_coded (book found) (start_of found).args.at (tag found) (start found) (end found) (there found) (before found) x g a_seat h e
 
-field-at-requires : tie.Need-field-at-requires
+field-at-requires : tie.Need-field_at-requires
 field-at-requires c κs = search rules
 
-enum-known-tag : tie.Need-enum-known-tag
+enum-known-tag : tie.Need-enum_known-tag
 enum-known-tag c = search rules
 
-enum_told : tie.Need-enum-told
+enum_told : tie.Need-enum_told-1
 enum_told c = search rules
 
-no-key-requires : tie.Need-no-key-requires
+no-key-requires : tie.Need-no_key-requires
 no-key-requires c κs = search rules
 
-returns : tie.Need-returns
-returns c = let f = c.before.before.before in let a = f.before.before.args in c.no_key.ensures ∙ sym (key_short (take a.count a.keys.now) a.at (fields_of (drop a.at a.book.now)) (sym f.field_at.ensures ∙ c.before.enum_told.given.1))
+returns : tie.Need-returns-in_default
+returns c = let f = c in let a = f.args in c.no_key.ensures ∙ sym (key_short (take a.count a.keys.now) a.at (fields_of (drop a.at a.book.now)) (sym f.field_at.ensures ∙ c.in_default.is))
 
-no-key-requires-2 : tie.Need-no-key-requires-2
+no-key-requires-2 : tie.Need-no_key-requires-then-tag-ne-I
 no-key-requires-2 c κs = search rules
 
-returns-2 : tie.Need-returns-2
-returns-2 c = let t = c.before.before in simp (c.no-key2.ensures, turned t, ne_eqb _ _ c.before.if1.true)
+returns-2 : tie.Need-returns-then-tag-ne-I
+returns-2 c = let t = c in simp (c.no_key-then-tag-ne-I.ensures, turned c.before.before, ne_eqb _ _ c.if-tag-ne-I.true)
 
-sub-read-code : tie.Need-overflow-sub-read-code
+sub-read-code : tie.Need-slice_bounds-read_code-count
 sub-read-code c = (there c.before).order
 
-part-read-code-start : tie.Need-slice-bounds-read-code-start
+part-read-code-start : tie.Need-slice_bounds-read_code-start
 part-read-code-start c = let l = (there c.before).order in let m = (there c.before).inside in search rules
 
-part-read-code-end : tie.Need-slice-bounds-read-code-end
+part-read-code-end : tie.Need-slice_bounds-read_code-end
 part-read-code-end c = let l = (there c.before).order in let m = (there c.before).inside in search rules
 
-read-code-requires : tie.Need-read-code-requires
+read-code-requires : tie.Need-read_code-requires
 read-code-requires c κs = search rules
 
-enum-known-key : tie.Need-enum-known-key
+enum-known-key : tie.Need-enum_known-key
 enum-known-key c = search rules
 
 given-requires : tie.Need-given-requires
 given-requires c κs = search rules
 
-no-key-requires-3 : tie.Need-no-key-requires-3
+no-key-requires-3 : tie.Need-no_key-requires-then-given
 no-key-requires-3 c κs = search rules
 
-returns-3 : tie.Need-returns-3
+returns-3 : tie.Need-returns-then-given
 returns-3 c =
-    let n = c.before in
-    let g = n.before in
-    let x = g.before.before.before in
-    let e = x.before.before.before.before in
-    c.no-key3.ensures ∙ sym (coded e _ true (sym x.before.before.read_code.ensures ∙ x.key.given.1) (sym g.given.ensures ∙ n.if2.true))
+    let n = c in
+    let g = n in
+    let x = g in
+    let e = x in
+    c.no_key-then-given.ensures ∙ sym (coded c.before.before.before.before.before.before.before _ true (sym x.read_code.ensures ∙ x.in-Key.is) (sym g.given.ensures ∙ n.if-given.true))
 
-enum-told-2 : tie.Need-enum-told-2
+enum-told-2 : tie.Need-enum_told-in-Malformed
 enum-told-2 c = search rules
 
-no-key-requires-4 : tie.Need-no-key-requires-4
+no-key-requires-4 : tie.Need-no_key-requires-in-Malformed
 no-key-requires-4 c κs = search rules
 
-returns-4 : tie.Need-returns-4
+returns-4 : tie.Need-returns-else-given
 returns-4 c =
-    let g = c.before in
-    let x = g.before.before.before in
-    let e = x.before.before.before.before in
-    sym (coded e _ false (sym x.before.before.read_code.ensures ∙ x.key.given.1) (sym g.given.ensures ∙ c.if2.false))
+    let g = c in
+    let x = g in
+    let e = x in
+    sym (coded c.before.before.before.before.before.before _ false (sym x.read_code.ensures ∙ x.in-Key.is) (sym g.given.ensures ∙ c.if-given.false))
 
-returns-5 : tie.Need-returns-5
+returns-5 : tie.Need-returns-in-Malformed
 returns-5 c =
-    let n = c.before in
-    let r = n.before.before in
-    let e = r.before.before in
-    simp (c.no-key4.ensures, turned (found e), a_seat e, sym r.read_code.ensures ∙ n.enum-told2.given.1)
+    let n = c in
+    let r = n in
+    let e = r in
+    simp (c.no_key-in-Malformed.ensures, turned (found c.before.before.before.before), a_seat c.before.before.before.before, sym r.read_code.ensures ∙ n.in-Malformed.is)
 
-pub key-at-spec : {M : Type 1} → statement M
-key-at-spec =
+pub key_at_spec : {M : Type 1} → statement M
+key_at_spec =
     tie.close
     (tie.spec
     field-at-requires

@@ -3,11 +3,11 @@
 use Rattle.positions.proofs.overdrawn_by.Statement.{statement}
 use Rattle.positions.proofs.overdrawn_by.Tie as tie
 
-returns : tie.Need-returns
-returns c = rw c.before.if1.true
+returns : tie.Need-returns-then-terms
+returns c = rw c.if-terms.true
 
-returns-2 : tie.Need-returns-2
-returns-2 c = rw c.before.if1.false
+returns-2 : tie.Need-returns-else-terms
+returns-2 c = rw c.if-terms.false
 
-pub overdrawn-by-spec : {M : Type 1} → statement M
-overdrawn-by-spec = tie.close (tie.spec returns returns-2)
+pub overdrawn_by_spec : {M : Type 1} → statement M
+overdrawn_by_spec = tie.close (tie.spec returns returns-2)

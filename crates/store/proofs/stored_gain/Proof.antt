@@ -15,30 +15,30 @@ use Rattle.store.proofs.Joined.{joined}
 use Rattle.store.proofs.stored_gain.Statement.{statement}
 use Rattle.store.proofs.stored_gain.Tie as tie
 
-fill-requires : tie.Need-fill-requires
+fill-requires : tie.Need-fill-count-requires
 fill-requires c κs = search rules
 
-returns : tie.Need-returns
+returns : tie.Need-returns-then-count-gt-ROOM
 returns c =
-    let f = c.before.fill in
-    let a = c.before.before.before.before.before.before.args in
+    let f = c.fill-count in
+    let a = c.args in
     rw (lt-leb (length (on_side_in a.long a.book.now a.first)) 128 (omega (arith, f.ensures.many)))
 
-gain-held-requires : tie.Need-gain-held-requires
+gain-held-requires : tie.Need-gain_held-gain-requires
 gain-held-requires c κs =
-    let else = c.before.before.before in
-    let h = else.before.fill.ensures.holds (omega arith) in
-    record { settlement = else.before.before.before.before.before.before.requires.1.0; held = h.few; priced = h.priced }
+    let else = c in
+    let h = else.fill-count.ensures.holds (omega arith) in
+    record { settlement = else.requires.1.0; held = h.few; priced = h.priced }
 
-returns-2 : tie.Need-returns-2
+returns-2 : tie.Need-returns
 returns-2 c =
-    let f = c.before.before.before.before.before.fill in
-    let a = c.before.before.before.before.before.before.before.before.before.before.args in
-    let g = c.gain-held.result in
-    let back : to_z w64 (of_z w64 g) ≡ g = (of_int g (small_fits g (omega (arith, c.gain-held.ensures.size)))).num in
-    let same = joined a.long a.settlement a.need a.book.now a.first f.result f.new.1.1.1.0 f.new.1.1.1.1.0 f.new.1.1.1.1.1.0 (f.ensures.holds (omega arith)) in
+    let f = c.fill-count in
+    let a = c.args in
+    let g = c.gain_held-gain.result in
+    let back : to_z w64 (of_z w64 g) ≡ g = (of_int g (small_fits g (omega (arith, c.gain_held-gain.ensures.size)))).num in
+    let same = joined a.long a.settlement a.need a.book.now a.first f.result f.new.stamps f.new.lots f.new.prices (f.ensures.holds (omega arith)) in
     rw (le-leb (length (on_side_in a.long a.book.now a.first)) 128 (omega (arith, f.ensures.many)))
-    (ap (λ (z : ℤ). Gain z) (back ∙ c.gain-held.ensures.exact ∙ same))
+    (ap (λ (z : ℤ). Gain z) (back ∙ c.gain_held-gain.ensures.exact ∙ same))
 
-pub stored-gain-spec : {M : Type 1} → statement M
-stored-gain-spec = tie.close (tie.spec fill-requires returns gain-held-requires returns-2)
+pub stored_gain_spec : {M : Type 1} → statement M
+stored_gain_spec = tie.close (tie.spec fill-requires returns gain-held-requires returns-2)
