@@ -31,27 +31,27 @@ module _ (p : Position) (long : p.long.0 ≤ 4000000) (short : p.short.0 ≤ 400
   pending_small Tier3 = omega arith
   pending_small Neither = omega arith
 
-standing-of-requires : tie.Need-standing-of-requires
+standing-of-requires : tie.Need-standing_of-standing-requires
 standing-of-requires c κs = search rules
 
-offered-by-requires : tie.Need-offered-by-requires
+offered-by-requires : tie.Need-offered_by-offered-requires
 offered-by-requires c κs = search rules
 
-cast-offered : tie.Need-overflow-cast-offered
-cast-offered c = let s = c.before.before in omega (arith, c.offered-by.ensures, offered-small s.args.position s.requires.long s.requires.short c.before.standing_of.result)
+cast-offered : tie.Need-overflow_cast-offered
+cast-offered c = let s = c in omega (arith, c.offered_by-offered.ensures, offered-small s.args.position s.requires.long s.requires.short c.standing_of-standing.result)
 
-pending-by-requires : tie.Need-pending-by-requires
+pending-by-requires : tie.Need-pending_by-pending-requires
 pending-by-requires c κs = search rules
 
-cast-pending : tie.Need-overflow-cast-pending
-cast-pending c = let s = c.before.before.before in omega (arith, c.pending-by.ensures, pending_small s.args.position s.requires.long s.requires.short c.before.before.standing_of.result)
+cast-pending : tie.Need-overflow_cast-pending
+cast-pending c = let s = c in omega (arith, c.pending_by-pending.ensures, pending_small s.args.position s.requires.long s.requires.short c.standing_of-standing.result)
 
 returns : tie.Need-returns
 returns c =
-    let a = c.before.before.before.args in
-    let s = c.before.before.standing_of in
-    (λ i. Closed a.place s.result (c.before.offered-by.ensures i) (c.pending-by.ensures i)) ∙ ap (λ (x : Standing). closed_at x a.position a.place) (s.ensures ∙ ap (standing_at a.terms a.position) (of_int a.total c.before.before.before.ranges.total).num)
+    let a = c.args in
+    let s = c.standing_of-standing in
+    (λ i. Closed a.place s.result (c.offered_by-offered.ensures i) (c.pending_by-pending.ensures i)) ∙ ap (λ (x : Standing). closed_at x a.position a.place) (s.ensures ∙ ap (standing_at a.terms a.position) (of_int a.total c.ranges.total).num)
 
-pub closed-at-spec : {M : Type 1} → statement M
-closed-at-spec =
+pub closed_at_spec : {M : Type 1} → statement M
+closed_at_spec =
     tie.close (tie.spec standing-of-requires offered-by-requires cast-offered pending-by-requires cast-pending returns)

@@ -23,9 +23,9 @@ use Rattle.group.proofs.group_of.Statement.{statement}
 use Rattle.group.proofs.group_of.Tie as tie
 
 -- the trades were read
-module _ (c : tie.After-read-trades) where
+module _ (c : tie.After-read_trades) where
   abbrev start : tie.Start
-  start = c.before.before.before
+  start = c.before.before.before.before
 
   abbrev fields : List Field
   fields = fields_of (drop start.args.first start.args.book.now)
@@ -33,101 +33,101 @@ module _ (c : tie.After-read-trades) where
   summed-is : summed start.args.terms start.args.position start.args.place start.args.first fields ≡ c.read_trades.result
   summed-is =
       sym (c.read_trades.ensures
-      ∙ ap (λ (b : Bool). trades_from start.args.terms.decimals b start.args.terms.settlement start.args.first 0 (pos 0) none_yet fields) c.before.net_long.ensures)
+      ∙ ap (λ (b : Bool). trades_from start.args.terms.decimals b start.args.terms.settlement start.args.first 0 (pos 0) none_yet fields) c.net_long-long.ensures)
 
 -- they end the group
-module _ (c : tie.After-at) where
+module _ (c : tie.In-Closed) where
   abbrev place : ℕ
-  place = c.at.given.0.0
+  place = c.in-Closed.at
 
   abbrev opened : ℕ
-  opened = c.at.given.0.1.0
+  opened = c.in-Closed.opened
 
   abbrev gain : ℤ
-  gain = c.at.given.0.1.1.0
+  gain = c.in-Closed.gain
 
   abbrev ordered : Bool
-  ordered = c.at.given.0.1.1.1.0
+  ordered = c.in-Closed.ordered
 
-  closed : summed (start c.before.before).args.terms (start c.before.before).args.position (start c.before.before).args.place (start c.before.before).args.first (fields c.before.before) ≡ Closed place opened gain ordered
-  closed = summed-is c.before.before ∙ c.at.given.1
+  closed : summed (start c.before).args.terms (start c.before).args.position (start c.before).args.place (start c.before).args.first (fields c.before) ≡ Closed place opened gain ordered
+  closed = summed-is c.before ∙ c.in-Closed.is
 
 -- the trades cover the net position
-module _ (c : tie.Else1) where
-  abbrev ended : tie.After-at
-  ended = c.before.before.before.before
+module _ (c : tie.Else-opened-net) where
+  abbrev ended : tie.In-Closed
+  ended = c.before.before.before
 
   abbrev begun : tie.Start
-  begun = start ended.before.before
+  begun = start ended.before
 
-  net-is : c.before.before.net_of.result.0 ≡ net begun.args.position
-  net-is = omega (arith, c.before.before.net_of.ensures)
+  net-is : c.net_of-net.result.0 ≡ net begun.args.position
+  net-is = omega (arith, c.net_of-net.ensures)
 
   covers : net begun.args.position ≤ opened ended
-  covers = omega (arith, c.if1.false, c.before.before.net_of.ensures)
+  covers = omega (arith, c.if-opened-net.false, c.net_of-net.ensures)
 
   gain-fits : SFits w64 (gain ended)
   gain-fits = search rules
 
   -- and the total gain is that of the newest lots
   abbrev owed : ℤ
-  owed = total begun.args.terms begun.args.position begun.args.place begun.args.first (fields ended.before.before)
+  owed = total begun.args.terms begun.args.position begun.args.place begun.args.first (fields ended.before)
 
   size : nat_abs owed ≤ 9999999 * net begun.args.position
   size =
-      total_size begun.args.terms begun.args.position begun.args.place begun.args.first (fields ended.before.before) (place ended) (opened ended) (gain ended) (ordered ended) (closed ended)
-      begun.pre.1.0.settlement
+      total_size begun.args.terms begun.args.position begun.args.place begun.args.first (fields ended.before) (place ended) (opened ended) (gain ended) (ordered ended) (closed ended)
+      begun.requires.1.0.settlement
 
-total_is : (c : tie.After-total-gain) → c.total-gain.result ≡ owed c.before
+total_is : (c : tie.After-total_gain-total) → c.total_gain-total.result ≡ owed c.before.before
 total_is c =
-    let e = c.before in
-    let a = (begun e).args in
-    c.total-gain.ensures
-    ∙ ap₂ (λ (b : Bool) (n : ℕ). newest_in b a.terms.settlement n a.book.now a.first) (ended e).before.before.before.net_long.ensures (net-is e)
+    let e = c in
+    let a = (begun c.before.before).args in
+    c.total_gain-total.ensures
+    ∙ ap₂ (λ (b : Bool) (n : ℕ). newest_in b a.terms.settlement n a.book.now a.first) (ended c.before.before).net_long-long.ensures (net-is c.before.before)
 
-exact : (c : tie.After-total-gain) → to_z w64 (of_z w64 c.total-gain.result) ≡ owed c.before
-exact c = let fits : SFits w64 c.total-gain.result = search rules in (of_int c.total-gain.result fits).num ∙ total_is c
+exact : (c : tie.After-total_gain-total) → to_z w64 (of_z w64 c.total_gain-total.result) ≡ owed c.before.before
+exact c = let fits : SFits w64 c.total_gain-total.result = search rules in (of_int c.total_gain-total.result fits).num ∙ total_is c
 
-net-long-requires : tie.Need-net-long-requires
+net-long-requires : tie.Need-net_long-long-requires
 net-long-requires c κs = search rules
 
-read-trades-requires : tie.Need-read-trades-requires
+read-trades-requires : tie.Need-read_trades-requires
 read-trades-requires c κs = search rules
 
-enum-known-at : tie.Need-enum-known-at
+enum-known-at : tie.Need-enum_known-at
 enum-known-at c = search rules
 
-net-of-requires : tie.Need-net-of-requires
+net-of-requires : tie.Need-net_of-net-requires
 net-of-requires c κs = search rules
 
-returns : tie.Need-returns
+returns : tie.Need-returns-then-opened-net
 returns c =
-    let x = c.before.before.before.before in
-    let a = (start x.before.before).args in
-    group_uncovered a.terms a.position a.place a.first (fields x.before.before) (place x) (opened x) (gain x) (ordered x) (closed x) (omega (arith, c.if1.true, c.before.before.net_of.ensures))
+    let x = c in
+    let a = (start c.before.before.before.before).args in
+    group_uncovered a.terms a.position a.place a.first (fields c.before.before.before.before) (place c.before.before.before) (opened c.before.before.before) (gain c.before.before.before) (ordered c.before.before.before) (closed c.before.before.before) (omega (arith, c.if-opened-net.true, c.net_of-net.ensures))
 
-total-gain-requires : tie.Need-total-gain-requires
+total-gain-requires : tie.Need-total_gain-total-requires
 total-gain-requires c κs =
-    let s = begun c in
+    let s = begun c.before in
     let a = s.args in
-    let e = ended c in (
-      s.pre.0,
+    let e = ended c.before in (
+      s.requires.0,
       (
-        s.pre.1.0.settlement,
+        s.requires.1.0.settlement,
         record {
           place = place e;
-          reads = sym e.before.before.read_trades.ensures ∙ e.at.given.1 ∙ ap (λ (z : ℤ). Closed (place e) (opened e) z (ordered e)) (sym (of_int (gain e) (gain-fits c)).num);
-          covers = omega (arith, covers c, net-is c);
-          few = omega (arith, net-is c, s.pre.1.1.long, s.pre.1.1.short);
+          reads = sym e.read_trades.ensures ∙ e.in-Closed.is ∙ ap (λ (z : ℤ). Closed (place e) (opened e) z (ordered e)) (sym (of_int (gain e) (gain-fits c.before)).num);
+          covers = omega (arith, covers c.before, net-is c.before);
+          few = omega (arith, net-is c.before, s.requires.1.1.long, s.requires.1.1.short);
         },
       ),
     )
 
-closed-at-requires : tie.Need-closed-at-requires
+closed-at-requires : tie.Need-closed_at-requires
 closed-at-requires c κs =
-    let s = begun c.before in
-    let t = s.pre.1.0 in
-    let h = s.pre.1.1 in
+    let s = begun c.before.before in
+    let t = s.requires.1.0 in
+    let h = s.requires.1.1 in
     record {
       settlement = t.settlement;
       loss = t.loss;
@@ -135,28 +135,28 @@ closed-at-requires c κs =
       edge2 = t.edge2;
       long = h.long;
       short = h.short;
-      total = rw (exact c) (omega (arith, size c.before, h.long, h.short));
+      total = rw (exact c) (omega (arith, size c.before.before, h.long, h.short));
     }
 
-enum-known-r : tie.Need-enum-known-r
+enum-known-r : tie.Need-enum_known-r
 enum-known-r c = search rules
 
-returns-2 : tie.Need-returns-2
+returns-2 : tie.Need-returns-else-opened-net
 returns-2 c holder holds =
-    let b = c.before in
-    let e = ended b.before in
-    let a = (begun b.before).args in
-    c.closed_at.ensures ∙ ap (λ (z : ℤ). closed_at (standing_at a.terms a.position z) a.position (place e)) (exact b)
-    ∙ group_closed a.terms a.position a.place a.first (fields e.before.before) (place e) (opened e) (gain e) (ordered e) (closed e) (covers b.before) holder holds
+    let b = c in
+    let e = ended c.before.before.before in
+    let a = (begun c.before.before.before).args in
+    c.closed_at.ensures ∙ ap (λ (z : ℤ). closed_at (standing_at a.terms a.position z) a.position (place e)) (exact c.before)
+    ∙ group_closed a.terms a.position a.place a.first (fields e.before) (place e) (opened e) (gain e) (ordered e) (closed e) (covers c.before.before.before) holder holds
 
-returns-3 : tie.Need-returns-3
+returns-3 : tie.Need-returns-in-Refused
 returns-3 c =
-    let x = c.before in
-    let a = (start x.before.before).args in
-    group_refused a.terms a.position a.place a.first (fields x.before.before) x.r.given.0.0 (summed-is x.before.before ∙ x.r.given.1)
+    let x = c in
+    let a = (start c.before).args in
+    group_refused a.terms a.position a.place a.first (fields c.before) x.in-Refused.r (summed-is c.before ∙ x.in-Refused.is)
 
-pub group-of-spec : {M : Type 1} → statement M
-group-of-spec =
+pub group_of_spec : {M : Type 1} → statement M
+group_of_spec =
     tie.close
     (tie.spec
     net-long-requires

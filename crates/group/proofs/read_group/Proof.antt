@@ -11,38 +11,38 @@ use borrow.Author.Rules.{rules}
 use Rattle.group.proofs.read_group.Statement.{statement}
 use Rattle.group.proofs.read_group.Tie as tie
 
-read-seats-requires : tie.Need-read-seats-requires
+read-seats-requires : tie.Need-read_seats-requires
 read-seats-requires c κs = search rules
 
-enum-known-position : tie.Need-enum-known-position
+enum-known-position : tie.Need-enum_known-position
 enum-known-position c = search rules
 
-group-of-requires : tie.Need-group-of-requires
+group-of-requires : tie.Need-group_of-requires
 group-of-requires c κs =
-    let x = c.before in
-    let s = x.before.before.before.before in
+    let x = c in
+    let s = x in
     let a = s.args in
-    (s.requires.0, (s.requires.1, subst (FewAt a.book.now a.terms 4_000_000) (sym x.before.before.read_seats.ensures ∙ x.position.given.1) (seats_within a.book.now a.terms a.at)))
+    (s.requires.0, (s.requires.1, subst (FewAt a.book.now a.terms 4_000_000) (sym x.read_seats.ensures ∙ x.in-Read.is) (seats_within a.book.now a.terms a.at)))
 
-enum-known-r : tie.Need-enum-known-r
+enum-known-r : tie.Need-enum_known-r
 enum-known-r c = search rules
 
-returns : tie.Need-returns
+returns : tie.Need-returns-in-Read
 returns c = λ code.
-    let x = c.before.before in
-    let a = x.before.before.before.before.args in
-    let m = subst (Means a.terms a.place a.book.now code [] DueI most_seats a.at) (sym x.before.before.read_seats.ensures ∙ x.position.given.1) (group_means a.terms a.place a.book.now code a.at) in
-    c.Group-of.ensures (with_seats code m.more) (record { sums = m.sums; untraded = refl }) ∙ sym (ap (group_at a.terms) m.reads)
+    let x = c in
+    let a = x.args in
+    let m = subst (Means a.terms a.place a.book.now code [] DueI most_seats a.at) (sym x.read_seats.ensures ∙ x.in-Read.is) (group_means a.terms a.place a.book.now code a.at) in
+    c.group_of.ensures (with_seats code m.more) (record { sums = m.sums; untraded = refl }) ∙ sym (ap (group_at a.terms) m.reads)
 
-returns-2 : tie.Need-returns-2
+returns-2 : tie.Need-returns-in-Refused
 returns-2 c = λ code.
-    let x = c.before in
-    let a = x.before.before.before.before.args in
-    let m = subst (Means a.terms a.place a.book.now code [] DueI most_seats a.at) (sym x.before.before.read_seats.ensures ∙ x.r.given.1) (group_means a.terms a.place a.book.now code a.at) in
+    let x = c in
+    let a = x.args in
+    let m = subst (Means a.terms a.place a.book.now code [] DueI most_seats a.at) (sym x.read_seats.ensures ∙ x.in-Refused.is) (group_means a.terms a.place a.book.now code a.at) in
     sym (ap (group_at a.terms) m)
 
-pub read-group-spec : {M : Type 1} → statement M
-read-group-spec =
+pub read_group_spec : {M : Type 1} → statement M
+read_group_spec =
     tie.close
     (tie.spec
     read-seats-requires

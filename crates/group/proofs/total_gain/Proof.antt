@@ -27,19 +27,19 @@ module _ (s : tie.Start) where
   fields = fields_of (drop s.args.first s.args.book.now)
 
   abbrev sums : Summed s.args.decimals s.args.long s.args.settlement s.args.book.now s.args.first s.args.need s.args.opened s.args.gain s.args.ordered
-  sums = s.pre.1.1
+  sums = s.requires.1.1
 
   abbrev owed : ℤ
   owed = newest_in s.args.long s.args.settlement s.args.need s.args.book.now s.args.first
 
   size : nat_abs owed ≤ 9999999 * s.args.need
-  size = newest_most s.args.decimals s.args.long s.args.settlement s.args.first fields sums.place s.args.opened s.args.gain s.args.ordered sums.reads s.pre.1.0 s.args.need
+  size = newest_most s.args.decimals s.args.long s.args.settlement s.args.first fields sums.place s.args.opened s.args.gain s.args.ordered sums.reads s.requires.1.0 s.args.need
 
   readable : Readable s.args.book.now s.args.first
   readable = all_good s.args.decimals s.args.long s.args.settlement s.args.first fields sums.place s.args.opened s.args.gain s.args.ordered sums.reads
 
 -- the oldest lots are gone over
-module _ (c : tie.After-oldest-gain) where
+module _ (c : tie.After-oldest_gain) where
   abbrev start : tie.Start
   start = c.before.before.before.before.before
 
@@ -48,7 +48,7 @@ module _ (c : tie.After-oldest-gain) where
       let a = start.args in
       let r = sums start in
       ap (λ (z : ℤ). a.gain -ℤ z) c.oldest_gain.ensures
-      ∙ newest_left a.decimals a.long a.settlement a.first (fields start) r.place a.opened a.gain a.ordered r.reads c.before.if3.true a.need r.covers
+      ∙ newest_left a.decimals a.long a.settlement a.first (fields start) r.place a.opened a.gain a.ordered r.reads c.if-ordered.true a.need r.covers
 
   gain-fits : SFits w64 start.args.gain
   gain-fits = search rules
@@ -59,51 +59,51 @@ module _ (c : tie.After-oldest-gain) where
   room : nat_abs (start.args.gain -ℤ c.oldest_gain.result) < 2 ^ 63
   room = rw taken-off (omega (arith, size start, (sums start).few))
 
-returns : tie.Need-returns
+returns : tie.Need-returns-then-need-eq0
 returns c =
-    let s = c.before.before in
+    let s = c in
     let a = s.args in
     let none : a.need ≡ 0 = omega arith in
     sym (ap (λ (n : ℕ). newest_in a.long a.settlement n a.book.now a.first) none
     ∙ gain_of_none a.long a.settlement (arranged when (in_front (trades_at a.book.now a.first) [])))
 
-returns-2 : tie.Need-returns-2
+returns-2 : tie.Need-returns-then-opened-need
 returns-2 c =
-    let s = c.before.before.before in
+    let s = c in
     let a = s.args in
-    let r = sums s in
+    let r = sums c.before.before.before in
     let all : a.opened ≡ a.need = omega arith in
     let fits : SFits w64 a.gain = search rules in
-    (of_int a.gain fits).num ∙ all_newest a.decimals a.long a.settlement a.first (fields s) r.place a.opened a.gain a.ordered r.reads
+    (of_int a.gain fits).num ∙ all_newest a.decimals a.long a.settlement a.first (fields c.before.before.before) r.place a.opened a.gain a.ordered r.reads
     ∙ ap (λ (n : ℕ). newest_in a.long a.settlement n a.book.now a.first) all
 
-sub-oldest-gain : tie.Need-overflow-sub-oldest-gain
+sub-oldest-gain : tie.Need-overflow_sub-opened
 sub-oldest-gain c = (sums c.before.before.before.before).covers
 
-oldest-gain-requires : tie.Need-oldest-gain-requires
-oldest-gain-requires c κs = let s = c.before.before.before.before in (s.requires.0, (s.requires.1.0, readable s))
+oldest-gain-requires : tie.Need-oldest_gain-requires
+oldest-gain-requires c κs = let s = c in (s.requires.0, (s.requires.1.0, readable c.before.before.before.before))
 
-sub-result : tie.Need-overflow-sub-result
+sub-result : tie.Need-overflow_sub-result
 sub-result c = op_fits (of_int (start c).args.gain (gain-fits c)) (of_int c.oldest_gain.result (oldest-fits c)) ◌-ℤ◌ (room c)
 
-returns-3 : tie.Need-returns-3
+returns-3 : tie.Need-returns-then-ordered
 returns-3 c = (of_op (of_int (start c).args.gain (gain-fits c)) (of_int c.oldest_gain.result (oldest-fits c)) ◌-ℤ◌ (room c)).num ∙ taken-off c
 
-newest-gain-requires : tie.Need-newest-gain-requires
+newest-gain-requires : tie.Need-newest_gain-requires
 newest-gain-requires c κs =
-    let s = c.before.before.before.before in
+    let s = c in
     let a = s.args in
-    let r = sums s in
-    let covered : Covered a.long a.book.now a.first a.need a.opened = record { has = lots_are a.decimals a.long a.settlement a.first (fields s) r.place a.opened a.gain a.ordered r.reads; enough = r.covers } in
-    (s.requires.0, (s.requires.1.0, (record { covered = covered; some = omega arith }, readable s)))
+    let r = sums c.before.before.before.before in
+    let covered : Covered a.long a.book.now a.first a.need a.opened = record { has = lots_are a.decimals a.long a.settlement a.first (fields c.before.before.before.before) r.place a.opened a.gain a.ordered r.reads; enough = r.covers } in
+    (s.requires.0, (s.requires.1.0, (record { covered = covered; some = omega arith }, readable c.before.before.before.before)))
 
-returns-4 : tie.Need-returns-4
+returns-4 : tie.Need-returns
 returns-4 c =
     let fits : SFits w64 c.newest_gain.result = search rules in
     (of_int c.newest_gain.result fits).num ∙ c.newest_gain.ensures
 
-pub total-gain-spec : {M : Type 1} → statement M
-total-gain-spec =
+pub total_gain_spec : {M : Type 1} → statement M
+total_gain_spec =
     tie.close
     (tie.spec
     returns

@@ -21,31 +21,31 @@ told : (fits : Bool) (newest gain : ℤ) → Gain gain ≡ cond fits (Gain newes
 told true newest gain h = cc
 told false newest gain h = let z : ◌≡◌ {A = ℕ} 0 1 = cc in absurd (omega arith)
 
-stored-gain-requires : tie.Need-stored-gain-requires
+stored-gain-requires : tie.Need-stored_gain-requires
 stored-gain-requires c κs = search rules
 
-enum-known-gain : tie.Need-enum-known-gain
+enum-known-gain : tie.Need-enum_known-gain
 enum-known-gain c = search rules
 
-enum_told : tie.Need-enum-told
+enum_told : tie.Need-enum_told-1
 enum_told c = search rules
 
-edge-gain-requires : tie.Need-edge-gain-requires
+edge-gain-requires : tie.Need-edge_gain-requires
 edge-gain-requires c κs = search rules
 
-returns : tie.Need-returns
+returns : tie.Need-returns-in-Gain
 returns c =
-    let k = c.before in
-    let s = k.before.before in
-    let a = s.before.before.args in
-    let gain = k.gain.given.0.0 in
+    let k = c in
+    let s = k in
+    let a = s.args in
+    let gain = k.in-Gain.gain in
     let fits : SFits w64 gain = search rules in
-    (of_int gain fits).num ∙ told (leb (length (on_side_in a.long a.book.now a.first)) 128) _ gain (sym k.gain.given.1 ∙ s.stored_gain.ensures)
+    (of_int gain fits).num ∙ told (leb (length (on_side_in a.long a.book.now a.first)) 128) _ gain (sym k.in-Gain.is ∙ s.stored_gain.ensures)
 
-returns-2 : tie.Need-returns-2
+returns-2 : tie.Need-returns-in-TooMany
 returns-2 c = search rules
 
-pub newest-gain-spec : {M : Type 1} → statement M
-newest-gain-spec =
+pub newest_gain_spec : {M : Type 1} → statement M
+newest_gain_spec =
     tie.close
     (tie.spec stored-gain-requires enum-known-gain enum_told edge-gain-requires returns returns-2)
