@@ -130,6 +130,7 @@ module _ {s : List ℕ} {terms : Terms} {first at count : ℕ} {keys starts stan
       go : (fs : List Field) → Nothing fs → (walk (Reading (InGroup terms b.customers Nobody)) b.last_c at fs) ≡ Refused refusal.cut_short at
       go [] none = refl
       go (Cut ∷ fs) cut = refl
+      go (Rattle.rules.specs.Fields.Whole _ _ ∷ fs) x5 = elim x5 [ ]
 
   module _ {t start end : ℕ} (k : Stands s at t start end) where
     abbrev value : List ℕ

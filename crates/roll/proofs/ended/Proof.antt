@@ -5,14 +5,14 @@ use borrow.Author.Tests.{eq-eqb, ne_eqb}
 use Rattle.roll.proofs.ended.Statement.{statement}
 use Rattle.roll.proofs.ended.Tie as tie
 
-returns : tie.Need-returns
-returns c = rw (eq-eqb _ _ c.if1.true)
+returns : tie.Need-returns-then-last-eq-ACCEPTED
+returns c = rw (eq-eqb _ _ c.if-last-eq-ACCEPTED.true)
 
 refused-requires : tie.Need-refused-requires
 refused-requires c κs = search rules
 
-returns-2 : tie.Need-returns-2
-returns-2 c = rw (ne_eqb _ _ c.before.if1.false) c.refused.ensures
+returns-2 : tie.Need-returns
+returns-2 c = rw (ne_eqb _ _ c.if-last-eq-ACCEPTED.false) c.refused.ensures
 
-pub ended-spec : {M : Type 1} → statement M
-ended-spec = tie.close (tie.spec returns refused-requires returns-2)
+pub ended_spec : {M : Type 1} → statement M
+ended_spec = tie.close (tie.spec returns refused-requires returns-2)

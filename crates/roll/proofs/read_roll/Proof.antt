@@ -45,67 +45,67 @@ as-judged s keys starts standings stakes r e d h =
 refused-requires : tie.Need-refused-requires
 refused-requires c κs = search rules
 
-returns : tie.Need-returns
+returns : tie.Need-returns-then-book-gt-LONGEST_BOOK
 returns c =
-    let s = c.before.before.before.before.before.before.before.args in
-    let h = c.before.if1.true in
+    let s = c.args in
+    let h = c.if-book-gt-LONGEST_BOOK.true in
     as-judged s.book.now s.keys.now s.starts.now s.standings.now s.stakes.now c.refused.result (too_long s.book.now h) (long_filled s.book.now _ h)
     (record { rolled = c.refused.ensures; filled = refl })
 
-read-terms-requires : tie.Need-read-terms-requires
+read-terms-requires : tie.Need-read_terms-requires
 read-terms-requires c κs = search rules
 
-enum-known-terms : tie.Need-enum-known-terms
+enum-known-terms : tie.Need-enum_known-terms
 enum-known-terms c = search rules
 
-read-customers-requires : tie.Need-read-customers-requires
+read-customers-requires : tie.Need-read_customers-requires
 read-customers-requires c κs =
-    let x = c.before.before.before.before.before in
-    let t = x.before.before in
-    let s = t.before.before.before.before.before.before.before in
-    (omega (arith, t.before.if1.false), (subst (SoundAt s.args.book.now) (sym t.read_terms.ensures ∙ x.terms.given.1) (terms_within s.args.book.now), s.requires))
+    let x = c in
+    let t = x in
+    let s = t in
+    (omega (arith, t.if-book-gt-LONGEST_BOOK.false), (subst (SoundAt s.args.book.now) (sym t.read_terms.ensures ∙ x.in-Read.is) (terms_within s.args.book.now), s.requires))
 
-enum-known-r : tie.Need-enum-known-r
+enum-known-r : tie.Need-enum_known-r
 enum-known-r c = search rules
 
-refused-requires-2 : tie.Need-refused-requires-2
+refused-requires-2 : tie.Need-refused-requires-in-Refused
 refused-requires-2 c κs = search rules
 
-same_length : tie.Need-same-length
+same_length : tie.Need-shape_of-keys
 same_length c = search rules
 
-same-length-2 : tie.Need-same-length-2
+same-length-2 : tie.Need-shape_of-starts
 same-length-2 c = search rules
 
-same-length-3 : tie.Need-same-length-3
+same-length-3 : tie.Need-shape_of-standings
 same-length-3 c = search rules
 
-same-length-4 : tie.Need-same-length-4
+same-length-4 : tie.Need-shape_of-stakes
 same-length-4 c = search rules
 
-returns-2 : tie.Need-returns-2
+returns-2 : tie.Need-returns-in-Read
 returns-2 c =
-    let m = c.before.before.before.before.before.before.before.before in
-    let x = m.before.before.before.before.before.before in
-    let t = x.before.before in
-    let s = t.before.before.before.before.before.before.before in
-    let l = m.read-customers.new.1.1.1 in
-    let h = t.before.if1.false in
-    let e = sym t.read_terms.ensures ∙ x.terms.given.1 in
-    as-judged s.args.book.now l.0 l.1.0 l.1.1.0 l.1.1.1.0 m.read-customers.result (judged s.args.book.now h _ e) (terms-filled s.args.book.now _ h _ e) m.read-customers.ensures
+    let m = c in
+    let x = m in
+    let t = x in
+    let s = t in
+    let l = m.read_customers.new in
+    let h = t.if-book-gt-LONGEST_BOOK.false in
+    let e = sym t.read_terms.ensures ∙ x.in-Read.is in
+    as-judged s.args.book.now l.keys l.starts l.standings l.stakes m.read_customers.result (judged s.args.book.now h _ e) (terms-filled s.args.book.now _ h _ e) m.read_customers.ensures
 
-returns-3 : tie.Need-returns-3
+returns-3 : tie.Need-returns-in-Refused
 returns-3 c =
-    let x = c.before.before in
-    let t = x.before.before in
-    let s = t.before.before.before.before.before.before.before.args in
-    let h = t.before.if1.false in
-    let e = sym t.read_terms.ensures ∙ x.r.given.1 in
-    as-judged s.book.now s.keys.now s.starts.now s.standings.now s.stakes.now c.refused2.result (judged s.book.now h _ e) (terms-filled s.book.now _ h _ e)
-    (record { rolled = c.refused2.ensures; filled = refl })
+    let x = c in
+    let t = x in
+    let s = t.args in
+    let h = t.if-book-gt-LONGEST_BOOK.false in
+    let e = sym t.read_terms.ensures ∙ x.in-Refused.is in
+    as-judged s.book.now s.keys.now s.starts.now s.standings.now s.stakes.now c.refused-in-Refused.result (judged s.book.now h _ e) (terms-filled s.book.now _ h _ e)
+    (record { rolled = c.refused-in-Refused.ensures; filled = refl })
 
-pub read-roll-spec : {M : Type 1} → statement M
-read-roll-spec =
+pub read_roll_spec : {M : Type 1} → statement M
+read_roll_spec =
     tie.close
     (tie.spec
     refused-requires
