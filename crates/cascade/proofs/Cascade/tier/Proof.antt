@@ -42,15 +42,15 @@ weigh-requires c κs = let s = start c.before.before.before.before in (law.stake
 lesser-requires : tie.Need-lesser-x-requires
 lesser-requires c κs = search rules
 
-found : (l : tie.After-lesser-x) → let s = began l in Found s.args.k (cols s) s.args.self l.lesser-x.result (offers (waited l)).staked.result (waited l).weigh.result
+found : (l : tie.After-lesser-x) → let s = began l in Found s.args.k (cols s) s.args.self l.lesser-x.result (offers (waited l)).staked-offered.result (waited l).weigh-pending.result
 found l =
     let s = began l in
     record {
       steady = s.requires.0;
       first = s.requires.1.0;
       last = s.requires.1.1;
-      offers = (offers (waited l)).staked.ensures ∙ law.offers_are s.args.k s.requires.1.0 s.args.standings.now s.args.stakes.now s.args.self.offset s.args.count;
-      waits = (waited l).weigh.ensures.sum;
+      offers = (offers (waited l)).staked-offered.ensures ∙ law.offers_are s.args.k s.requires.1.0 s.args.standings.now s.args.stakes.now s.args.self.offset s.args.count;
+      waits = (waited l).weigh-pending.ensures.sum;
       smaller = l.lesser-x.ensures;
     }
 
@@ -66,7 +66,7 @@ slice-aggregate-deal-2 c = search rules
 deal-requires : tie.Need-deal-requires
 deal-requires c κs =
     let l = c in
-    let w = (waited c.before.before.before).weigh.ensures in
+    let w = (waited c.before.before.before).weigh-pending.ensures in
     (law.pending_lent (found c.before.before.before) w, law.pending_open (found c.before.before.before) w)
 
 -- the first division is done
@@ -83,7 +83,7 @@ weigh-requires-2 : tie.Need-weigh-requires
 weigh-requires-2 c κs =
     let d = c in
     let l = counted c.before.before.before.before in
-    let w = (waited l).weigh.ensures in
+    let w = (waited l).weigh-pending.ensures in
     (law.mid_staked (found l) w d.deal.ensures.0, omega (arith, d.deal.ensures.1, law.weighed_room w))
 
 slice-aggregate-deal-3 : tie.Need-slice_bounds-deal-end-3
@@ -97,7 +97,7 @@ deal-requires-2 c κs =
     let v = c in
     let d = v in
     let l = counted c.before.before.before.before.before.before.before.before in
-    let w = (waited l).weigh.ensures in
+    let w = (waited l).weigh-pending.ensures in
     (law.offered_lent (found l) w d.deal.ensures.0 v.weigh.ensures, law.offered_open (found l) w d.deal.ensures.0 v.weigh.ensures)
 
 add-t22 : tie.Need-overflow_add-result
@@ -109,7 +109,7 @@ returns-3 c =
     let v = y in
     let d = v in
     let l = counted c.before.before.before.before.before.before.before.before.before.before.before.before in
-    law.worked (found l) (waited l).weigh.ensures d.deal.ensures.0 v.weigh.ensures y.deal-2.ensures.0
+    law.worked (found l) (waited l).weigh-pending.ensures d.deal.ensures.0 v.weigh.ensures y.deal-2.ensures.0
 
 pub tier_spec : {M : Type 1} → statement M
 tier_spec =

@@ -43,7 +43,7 @@ loop-less c = search rules
 loop-again : tie.Need-loop-i-preserved invariant-loop-i decreases-loop-i
 loop-again c =
     let b = c in
-    let rows = b.args.t1 in
+    let rows = b.args.rows in
     (search rules, done_more b.loop-i.invariant.1 (omega (arith, b.requires.1)) (value_is rows b.loop-i.i key_in refl))
 
 same_length : tie.Need-shape_of-keys invariant-loop-i decreases-loop-i

@@ -64,7 +64,7 @@ loop-again c =
     let b = c in
     let v = b.loop-i.invariant in
     let p = b.requires in
-    let rows = b.args.t1 in (
+    let rows = b.args.rows in (
       search rules,
       done_more v.1 (omega (arith, p.keyed)) (value_is rows b.loop-i.i key_in refl),
       done_more v.2 (omega (arith, p.stood)) (value_is rows b.loop-i.i standing_in refl),

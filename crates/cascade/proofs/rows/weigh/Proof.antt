@@ -24,11 +24,11 @@ abbrev decreases-loop-i : tie.decreases-loop-i
 decreases-loop-i count k lots₀ rows sum₀ i₀ lots sum i = count - i
 
 abbrev weight : tie.Start invariant-loop-i decreases-loop-i → ℕ → ℕ
-weight s = let rows = s.args.t1 in weight_at s.args.k (map standing_in rows) (map stake_in rows) (map offset_in rows)
+weight s = let rows = s.args.rows in weight_at s.args.k (map standing_in rows) (map stake_in rows) (map offset_in rows)
 
 -- what is weighed of the row at i
 weighed : (c : tie.After-weight_of-w invariant-loop-i decreases-loop-i) → let b = c in c.weight_of-w.result ≡ weight c.before.before.before.before.before b.loop-i.i
-weighed c = let b = c in let s = b in c.weight_of-w.ensures ∙ row_weight s.args.t1 b.loop-i.i s.args.k
+weighed c = let b = c in let s = b in c.weight_of-w.ensures ∙ row_weight s.args.rows b.loop-i.i s.args.k
 
 loop-holds : tie.Need-loop-i-init invariant-loop-i decreases-loop-i
 loop-holds c = (search rules, refl, record { weights = refl; sum = refl })
@@ -40,7 +40,7 @@ array-copy-out-row : tie.Need-bounds-rows-i invariant-loop-i decreases-loop-i
 array-copy-out-row c = search rules
 
 weight-of-requires : tie.Need-weight_of-w-requires invariant-loop-i decreases-loop-i
-weight-of-requires c κs = let b = c in let s = b in row_within s.args.t1 b.loop-i.i (s.requires.0.each b.loop-i.i (omega arith))
+weight-of-requires c κs = let b = c in let s = b in row_within s.args.rows b.loop-i.i (s.requires.0.each b.loop-i.i (omega arith))
 
 mul-lots : tie.Need-offset_bounds-lots-i invariant-loop-i decreases-loop-i
 mul-lots c = search rules
@@ -52,7 +52,7 @@ add-sum : tie.Need-overflow_add-sum invariant-loop-i decreases-loop-i
 add-sum c =
     let b = c in
     let s = b in
-    let rows = s.args.t1 in
+    let rows = s.args.rows in
     let small : (j : ℕ) → j < b.loop-i.i + 1 → weight c.before.before.before.before.before j ≤ 4_000_000 = λ j h. omega (arith, weight_le s.args.k (at (map standing_in rows) j) (at (map stake_in rows) j) (at (map offset_in rows) j), s.requires.0.stood.small j (omega arith)) in
     omega (arith, weighed c, b.loop-i.invariant.2.sum, sum_bound (weight c.before.before.before.before.before) 4_000_000 b.loop-i.i (λ j h. small j (omega arith)), small b.loop-i.i (omega arith), s.requires.0.stood.few)
 

@@ -19,7 +19,7 @@ begin t = t.before.before.before
 
 -- the columns of the rows, with the keys that were taken out
 abbrev cols : tie.After-take_keys → Columns
-cols t = let a = (begin t).args in columns t.take_keys.new.1.1.0 (map standing_in a.self.rows) (map stake_in a.self.rows) a.count
+cols t = let a = (begin t).args in columns t.take_keys.new.keys (map standing_in a.self.rows) (map stake_in a.self.rows) a.count
 
 steady : (t : tie.After-take_keys) → Steady 4_000_000_000 (cols t) (state_of (begin t).args.self)
 steady t =
@@ -37,7 +37,7 @@ steady t =
 
 -- the same tier as with the rows' own keys
 own : (t : tie.After-take_keys) → let a = (begin t).args in after_tier a.k (cols t) (state_of a.self) ≡ after_tier a.k (columns_of a.self.rows a.count) (state_of a.self)
-own t = let a = (begin t).args in own_keys a.k a.count a.self.total a.self.rows t.take_keys.new.1.1.0 _ t.take_keys.ensures
+own t = let a = (begin t).args in own_keys a.k a.count a.self.total a.self.rows t.take_keys.new.keys _ t.take_keys.ensures
 
 abbrev waited : tie.After-lesser-x → tie.After-weigh-pending
 waited l = l.before.before
@@ -72,15 +72,15 @@ weigh-requires-2 c κs = let w = c in (law.staked (begin c.before.before.before.
 lesser-requires : tie.Need-lesser-x-requires
 lesser-requires c κs = search rules
 
-found : (l : tie.After-lesser-x) → let t = keyed l in Found (begin t).args.k (cols t) (state_of (begin t).args.self) l.lesser-x.result (offers l).weigh.result (waited l).weigh2.result
+found : (l : tie.After-lesser-x) → let t = keyed l in Found (begin t).args.k (cols t) (state_of (begin t).args.self) l.lesser-x.result (offers l).weigh-offered.result (waited l).weigh-pending.result
 found l =
     let t = keyed l in
     record {
       steady = steady t;
-      first = (begin t).pre.1.0;
-      last = (begin t).pre.1.1;
-      offers = (offers l).weigh.ensures.sum;
-      waits = (waited l).weigh2.ensures.sum;
+      first = (begin t).requires.1.0;
+      last = (begin t).requires.1.1;
+      offers = (offers l).weigh-offered.ensures.sum;
+      waits = (waited l).weigh-pending.ensures.sum;
       smaller = l.lesser-x.ensures;
     }
 
@@ -96,7 +96,7 @@ slice-aggregate-deal-2 c = search rules
 deal-requires : tie.Need-deal-closed-requires
 deal-requires c κs =
     let l = c in
-    let w = (waited c.before.before.before).weigh2.ensures in
+    let w = (waited c.before.before.before).weigh-pending.ensures in
     (law.pending_lent (found c.before.before.before) w, law.pending_open (found c.before.before.before) w)
 
 -- the first division is done
@@ -110,7 +110,7 @@ weigh-requires-3 : tie.Need-weigh-requires
 weigh-requires-3 c κs =
     let d = c in
     let l = counted c.before.before in
-    let w = (waited l).weigh2.ensures in
+    let w = (waited l).weigh-pending.ensures in
     (closed_staked _ _ _ (rows_of l) _ (found l) w d.deal-closed.ensures.0, omega (arith, d.deal-closed.ensures.1, law.weighed_room w))
 
 slice-aggregate-deal-3 : tie.Need-slice_bounds-deal-end-3
@@ -124,7 +124,7 @@ deal-requires-2 c κs =
     let v = c in
     let d = v in
     let l = counted c.before.before.before.before.before.before in
-    let w = (waited l).weigh2.ensures in
+    let w = (waited l).weigh-pending.ensures in
     (closed_lent _ _ _ (rows_of l) _ (found l) w d.deal-closed.ensures.0 v.weigh.ensures, closed_open _ _ _ (rows_of l) _ (found l) w d.deal-closed.ensures.0 v.weigh.ensures)
 
 add-t24 : tie.Need-overflow_add-result
@@ -139,7 +139,7 @@ returns-2 c =
     let v = y in
     let d = v in
     let l = counted c.before.before.before.before.before.before.before.before.before in
-    let w = (waited l).weigh2.ensures in (
+    let w = (waited l).weigh-pending.ensures in (
       given_columns _ _ _ (rows_of l) _ (found l) w d.deal-closed.ensures.0 v.weigh.ensures y.deal-given.ensures.0,
       given_state _ _ _ (rows_of l) _ (found l) w d.deal-closed.ensures.0 v.weigh.ensures y.deal-given.ensures.0 ∙ own (keyed l),
     )
