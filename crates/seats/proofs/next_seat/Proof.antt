@@ -19,25 +19,25 @@ abbrev from : tie.In-Field → tie.Start
 from c = c.before.before.before
 
 -- I, K, H and Q, each behind the one before
-seat : (c : tie.In-Field) → let f = c.tag-1.given.0 in Stands (book_of (from c)) (from c).args.at f.0 f.1.0 f.1.1.0
+seat : (c : tie.In-Field) → let f = c.in-Field in Stands (book_of (from c)) (from c).args.at f.tag f.start f.end
 seat c = stands _ _ _ _ _ (sym c.field_at.ensures ∙ c.in-Field.is)
 
 abbrev first : tie.In-Field-field_at → tie.In-Field
 first c = c.before.before.before
 
-long : (c : tie.In-Field-field_at) → let f = c.short-1.given.0 in Stands (book_of (from (first c))) (first c).before.tag.given.0.1.1.0 f.0 f.1.0 f.1.1.0
+long : (c : tie.In-Field-field_at) → let f = c.in-Field-field_at in Stands (book_of (from (first c))) (first c).in-Field.end f.tag f.start f.short
 long c = stands _ _ _ _ _ (sym c.field_at-2.ensures ∙ c.in-Field-field_at.is)
 
 abbrev second : tie.In-Field-field_at-2 → tie.In-Field-field_at
 second c = c.before.before
 
-short : (c : tie.In-Field-field_at-2) → let f = c.unfilled-1.given.0 in Stands (book_of (from (first (second c)))) (second c).before.short.given.0.1.1.0 f.0 f.1.0 f.1.1.0
+short : (c : tie.In-Field-field_at-2) → let f = c.in-Field-field_at-2 in Stands (book_of (from (first (second c)))) (second c).in-Field-field_at.short f.tag f.start f.unfilled
 short c = stands _ _ _ _ _ (sym c.field_at-3.ensures ∙ c.in-Field-field_at-2.is)
 
 abbrev third : tie.In-Field-field_at-3 → tie.In-Field-field_at-2
 third c = c.before.before
 
-unfilled : (c : tie.In-Field-field_at-3) → let f = c.next-1.given.0 in Stands (book_of (from (first (second (third c))))) (third c).before.unfilled.given.0.1.1.0 f.0 f.1.0 f.1.1.0
+unfilled : (c : tie.In-Field-field_at-3) → let f = c.in-Field-field_at-3 in Stands (book_of (from (first (second (third c))))) (third c).in-Field-field_at-2.unfilled f.tag f.start f.next
 unfilled c = stands _ _ _ _ _ (sym c.field_at-4.ensures ∙ c.in-Field-field_at-3.is)
 
 field-at-requires : tie.Need-field_at-requires

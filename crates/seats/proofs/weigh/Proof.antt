@@ -24,8 +24,8 @@ abbrev turn : tie.In-Found invariant-loop-count decreases-loop-count → tie.At-
 turn k = k.before.before.before
 
 -- the seat that was found is the next of them
-sits : (k : tie.In-Found invariant-loop-count decreases-loop-count) → let a = (start (turn k)).args in Next a.book.now a.at (turn k).loop.count k.in-Found.seat
-sits k = next _ _ (turn k).loop.invariant.1.behind (omega arith) (sym k.next_seat.ensures ∙ k.in-Found.is)
+sits : (k : tie.In-Found invariant-loop-count decreases-loop-count) → let a = (start (turn k)).args in Next a.book.now a.at (turn k).loop-count.count k.in-Found.seat
+sits k = next _ _ (turn k).loop-count.invariant.1.behind (omega arith) (sym k.next_seat.ensures ∙ k.in-Found.is)
 
 loop-holds : tie.Need-loop-count-init invariant-loop-count decreases-loop-count
 loop-holds c = (search rules, none_yet _ _ _ _ _ _)
@@ -58,7 +58,7 @@ key-of-requires : tie.Need-key_of-requires invariant-loop-count decreases-loop-c
 key-of-requires c κs =
     let k = c in
     let n = sits c.before in
-    ((n.ordered.code, omega (arith, n.ordered)), (sane_next _ _ (start (turn c.before)).pre.0 n).code)
+    ((n.ordered.code, omega (arith, n.ordered)), (sane_next _ _ (start (turn c.before)).requires.0 n).code)
 
 mul-keys : tie.Need-offset_bounds-keys-count invariant-loop-count decreases-loop-count
 mul-keys c = search rules
@@ -77,7 +77,7 @@ add-sum c =
     let k = c in
     let b = turn c.before.before in
     let a = (start b).args in
-    omega (arith, sum_le _ _ _ _ b.loop-count.inv.1 (start b).pre.0 (omega (arith, (sits c.before.before).below)), weight_le a.standing a.long (seat_in a.book.now k.in-Found.seat) (sane_next a.book.now a.at (start b).pre.0 (sits c.before.before)), c.weight_of-weight.ensures)
+    omega (arith, sum_le _ _ _ _ b.loop-count.invariant.1 (start b).requires.0 (omega (arith, (sits c.before.before).below)), weight_le a.standing a.long (seat_in a.book.now k.in-Found.seat) (sane_next a.book.now a.at (start b).requires.0 (sits c.before.before)), c.weight_of-weight.ensures)
 
 add-count : tie.Need-overflow_add-count invariant-loop-count decreases-loop-count
 add-count c = search rules
@@ -89,7 +89,7 @@ loop-again : tie.Need-loop-count-preserved invariant-loop-count decreases-loop-c
 loop-again c =
     let k = c in
     let b = turn c.before.before in
-    (omega arith, one_more _ _ _ _ b.loop-count.inv.1 (sits c.before.before) c.key_of.ensures c.weight_of-weight.ensures (omega arith) (omega arith))
+    (omega arith, one_more _ _ _ _ b.loop-count.invariant.1 (sits c.before.before) c.key_of.ensures c.weight_of-weight.ensures (omega arith) (omega arith))
 
 same-length-3 : tie.Need-shape_of-keys invariant-loop-count decreases-loop-count
 same-length-3 c = search rules
