@@ -38,6 +38,7 @@ module _ (f : ℕ → List ℕ) where
       (λ e. rw e (omega (arith, more_length n)))
       (λ l. omega (arith, more_length n, first_room n i l))
       (eq-or-lt_of_le (le_of_suc-le-suc h))
+  first_room zero i h = elim h [ ]
 
   -- so it fits behind the pieces before it
   pub piece_room : {entry out : List ℕ} {at₀ at : ℕ} (n i : ℕ) → Wrote at₀ (first i) entry out at → Room at₀ (first n) entry → length out ≡ length entry → i < n → Room at (f i) out

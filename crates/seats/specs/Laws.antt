@@ -96,11 +96,11 @@ module _ (s : List ℕ) where
             seats = λ n. rw (i.fields, k.fields, h.fields, q.fields, e, k.begins, h.begins, q.begins);
             ordered = record { code = i.order; long = omega (arith, k.begins, k.order); short = omega (arith, h.begins, h.order); unfilled = omega (arith, q.begins, q.order); inside = q.inside };
           })
-      fourth k h (short z) = no_seat (begins ∙ on_found k _ ∙ on_found h _ ∙ on_nothing _ z _) (λ n. rw (i.fields, k.fields, h.fields) (none_3 n _ _ _ _ _ _ z))
+      fourth {a} {x} {b = b} k h (short z) = no_seat (begins ∙ on_found k _ ∙ on_found h _ ∙ on_nothing _ z _) (λ n. rw (i.fields, k.fields, h.fields) (none_3 n _ _ a b _ _ z))
 
       third : {a x short : ℕ} → Stands s end a x short → Look short → Says here (seat_from at here)
       third k (whole b y unfilled h) = fourth k h (look unfilled)
-      third k (short z) = no_seat (begins ∙ on_found k _ ∙ on_nothing _ z _) (λ n. rw (i.fields, k.fields) (none_2 n _ _ _ _ z))
+      third {a} k (short z) = no_seat (begins ∙ on_found k _ ∙ on_nothing _ z _) (λ n. rw (i.fields, k.fields) (none_2 n _ _ a _ z))
 
       second : Look end → Says here (seat_from at here)
       second (whole a x h k) = third k (look h)

@@ -5,18 +5,18 @@ use Rattle.cutback.specs.Lines.{codes_from}
 use Rattle.cutback.proofs.cut_lines.Statement.{statement}
 use Rattle.cutback.proofs.cut_lines.Tie as tie
 
-slice-aggregate-cut-in : tie.Need-slice-aggregate-cut-in
+slice-aggregate-cut-in : tie.Need-slice_bounds-cut_in-end
 slice-aggregate-cut-in c = search rules
 
-cut-in-requires : tie.Need-cut-in-requires
+cut-in-requires : tie.Need-cut_in-requires
 cut-in-requires c κs = search rules
 
-same_length : tie.Need-same-length
+same_length : tie.Need-shape_of-cuts
 same_length c = search rules
 
 returns : tie.Need-returns
 unfolding codes_from
-returns c = c.before.before.cut_in.ensures
+returns c = c.cut_in.ensures
 
-pub cut-lines-spec : {M : Type 1} → statement M
-cut-lines-spec = tie.close (tie.spec slice-aggregate-cut-in cut-in-requires same_length returns)
+pub cut_lines_spec : {M : Type 1} → statement M
+cut_lines_spec = tie.close (tie.spec slice-aggregate-cut-in cut-in-requires same_length returns)

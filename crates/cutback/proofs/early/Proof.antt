@@ -10,41 +10,41 @@ use Rattle.cutback.proofs.early.Statement.{statement}
 use Rattle.cutback.proofs.early.Tie as tie
 
 -- what each test says where it fails
-known : (c : tie.Else1) → eqb c.before.args.tons 0 ≡ false
-known c = ne_eqb c.before.args.tons 0 c.if1.false
+known : (c : tie.Else-tons-eq0) → eqb c.args.tons 0 ≡ false
+known c = ne_eqb c.args.tons 0 c.if-tons-eq0.false
 
-weighed : (c : tie.Else2) → grams_bad c.before.before.before.args.grams ≡ false
-weighed c = sym c.before.grams-bad.ensures ∙ c.if2.false
+weighed : (c : tie.Else-grams_bad) → grams_bad c.args.grams ≡ false
+weighed c = sym c.grams_bad.ensures ∙ c.if-grams_bad.false
 
-coded : (c : tie.Else4) → ltb c.before.before.before.before.before.args.codes c.before.before.before.before.before.args.lots ≡ false
-coded c = let a = c.before.before.before.before.before.args in le-ltb a.codes a.lots c.if4.false
+coded : (c : tie.Else-codes-lots) → ltb c.args.codes c.args.lots ≡ false
+coded c = let a = c.args in le-ltb a.codes a.lots c.if-codes-lots.false
 
-returns : tie.Need-returns
-returns c = simp (eq-eqb c.before.args.tons 0 c.if1.true)
+returns : tie.Need-returns-then-tons-eq0
+returns c = simp (eq-eqb c.args.tons 0 c.if-tons-eq0.true)
 
-grams-bad-requires : tie.Need-grams-bad-requires
+grams-bad-requires : tie.Need-grams_bad-requires
 grams-bad-requires c κs = search rules
 
-returns-2 : tie.Need-returns-2
-returns-2 c = simp (known c.before.before, sym c.before.grams-bad.ensures ∙ c.if2.true)
+returns-2 : tie.Need-returns-then-grams_bad
+returns-2 c = simp (known c.before.before, sym c.grams_bad.ensures ∙ c.if-grams_bad.true)
 
-returns-3 : tie.Need-returns-3
-returns-3 c = let e = c.before in simp (known e.before.before, weighed e, c.if3.true)
+returns-3 : tie.Need-returns-then-bad
+returns-3 c = let e = c in simp (known c.before.before.before, weighed c.before, c.if-bad.true)
 
-returns-4 : tie.Need-returns-4
-returns-4 c = let t = c.before in let e = t.before in let a = e.before.before.before.args in simp (known e.before.before, weighed e, t.if3.false, lt-ltb a.codes a.lots c.if4.true)
+returns-4 : tie.Need-returns-then-codes-lots
+returns-4 c = let t = c in let e = t in let a = e.args in simp (known c.before.before.before.before, weighed c.before.before, t.if-bad.false, lt-ltb a.codes a.lots c.if-codes-lots.true)
 
-count-bad-requires : tie.Need-count-bad-requires
+count-bad-requires : tie.Need-count_bad-requires
 count-bad-requires c κs = search rules
 
-returns-5 : tie.Need-returns-5
-returns-5 c = let f = c.before.before in let t = f.before in let e = t.before in simp (known e.before.before, weighed e, t.if3.false, coded f, sym c.before.count-bad.ensures ∙ c.if5.true)
+returns-5 : tie.Need-returns-then-count_bad
+returns-5 c = let f = c in let t = f in let e = t in simp (known c.before.before.before.before.before.before, weighed c.before.before.before.before, t.if-bad.false, coded c.before.before, sym c.count_bad.ensures ∙ c.if-count_bad.true)
 
-returns-6 : tie.Need-returns-6
-returns-6 c = let f = c.before.before in let t = f.before in let e = t.before in simp (known e.before.before, weighed e, t.if3.false, coded f, sym c.before.count-bad.ensures ∙ c.if5.false)
+returns-6 : tie.Need-returns
+returns-6 c = let f = c in let t = f in let e = t in simp (known c.before.before.before.before.before.before, weighed c.before.before.before.before, t.if-bad.false, coded c.before.before, sym c.count_bad.ensures ∙ c.if-count_bad.false)
 
-pub early-spec : {M : Type 1} → statement M
-early-spec =
+pub early_spec : {M : Type 1} → statement M
+early_spec =
     tie.close
     (tie.spec
     returns

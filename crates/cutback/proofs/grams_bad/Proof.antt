@@ -4,11 +4,11 @@ use borrow.Author.Tests.{eq-eqb, ne_eqb}
 use Rattle.cutback.proofs.grams_bad.Statement.{statement}
 use Rattle.cutback.proofs.grams_bad.Tie as tie
 
-returns : tie.Need-returns
-returns c = rw (eq-eqb c.before.args.grams 0 c.if1.true)
+returns : tie.Need-returns-then-grams-eq0
+returns c = rw (eq-eqb c.args.grams 0 c.if-grams-eq0.true)
 
-returns-2 : tie.Need-returns-2
-returns-2 c = rw (ne_eqb c.before.args.grams 0 c.if1.false)
+returns-2 : tie.Need-returns
+returns-2 c = rw (ne_eqb c.args.grams 0 c.if-grams-eq0.false)
 
-pub grams-bad-spec : {M : Type 1} → statement M
-grams-bad-spec = tie.close (tie.spec returns returns-2)
+pub grams_bad_spec : {M : Type 1} → statement M
+grams_bad_spec = tie.close (tie.spec returns returns-2)

@@ -6,45 +6,37 @@ use Rattle.cutback.specs.Limit.{tons}
 use Rattle.cutback.proofs.limit_of.Statement.{statement}
 use Rattle.cutback.proofs.limit_of.Tie as tie
 
-slice-aggregate-is : tie.Need-slice-aggregate-is
-slice-aggregate-is c = search rules
-
 is-requires : tie.Need-is-requires
 is-requires c κs = search rules
 
-by-metal-requires : tie.Need-by-metal-requires
+by-metal-requires : tie.Need-by_metal-requires
 by-metal-requires c κs = search rules
 
-returns : tie.Need-returns
+returns : tie.Need-returns-then-is
 unfolding tons
-returns c = let t = c.before in simp (c.by-metal.ensures, sym t.before.is.ensures ∙ t.if1.true)
-
-slice-aggregate-is-2 : tie.Need-slice-aggregate-is-2
-slice-aggregate-is-2 c = search rules
+returns c = let t = c in simp (c.by_metal.ensures, sym t.is.ensures ∙ t.if-is.true)
 
 is-requires-2 : tie.Need-is-requires-2
 is-requires-2 c κs = search rules
 
-by-metal-requires-2 : tie.Need-by-metal-requires-2
+by-metal-requires-2 : tie.Need-by_metal-requires-then-is-2
 by-metal-requires-2 c κs = search rules
 
-returns-2 : tie.Need-returns-2
+returns-2 : tie.Need-returns-then-is-2
 unfolding tons
-returns-2 c = let t = c.before in let e = t.before.before.before in simp (c.by-metal2.ensures, sym e.before.is.ensures ∙ e.if1.false, sym t.before.is2.ensures ∙ t.if2.true)
+returns-2 c = let t = c in let e = t in simp (c.by_metal-then-is-2.ensures, sym e.is.ensures ∙ e.if-is.false, sym t.is-2.ensures ∙ t.if-is-2.true)
 
-returns-3 : tie.Need-returns-3
+returns-3 : tie.Need-returns
 unfolding tons
-returns-3 c = let e = c.before.before.before in simp (sym e.before.is.ensures ∙ e.if1.false, sym c.before.is2.ensures ∙ c.if2.false)
+returns-3 c = let e = c in simp (sym e.is.ensures ∙ e.if-is.false, sym c.is-2.ensures ∙ c.if-is-2.false)
 
-pub limit-of-spec : {M : Type 1} → statement M
-limit-of-spec =
+pub limit_of_spec : {M : Type 1} → statement M
+limit_of_spec =
     tie.close
     (tie.spec
-    slice-aggregate-is
     is-requires
     by-metal-requires
     returns
-    slice-aggregate-is-2
     is-requires-2
     by-metal-requires-2
     returns-2

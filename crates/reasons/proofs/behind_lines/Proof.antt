@@ -10,53 +10,53 @@ use Rattle.reasons.proofs.Texts.{drop_step, all_left}
 use Rattle.reasons.proofs.behind_lines.Statement.{statement}
 use Rattle.reasons.proofs.behind_lines.Tie as tie
 
-abbrev invariant-loop : tie.invariant-loop
-invariant-loop text k left₀ i₀ left i = (i ≤ length text) × (behind_lines k text ≡ behind_lines left (drop i text))
+abbrev invariant-loop-i : tie.invariant-loop-i
+invariant-loop-i text k left₀ i₀ left i = (i ≤ length text) × (behind_lines k text ≡ behind_lines left (drop i text))
 
-abbrev decreases-loop : tie.decreases-loop
-decreases-loop text k left₀ i₀ left i = length text - i
+abbrev decreases-loop-i : tie.decreases-loop-i
+decreases-loop-i text k left₀ i₀ left i = length text - i
 
-loop-holds : tie.Need-loop-init invariant-loop decreases-loop
+loop-holds : tie.Need-loop-i-init invariant-loop-i decreases-loop-i
 loop-holds c = (search rules, refl)
 
-returns : tie.Need-returns invariant-loop decreases-loop
+returns : tie.Need-returns-then-left-eq0 invariant-loop-i decreases-loop-i
 returns c =
-    let p = c.before.before in
-    (search rules, sym (p.loop.invariant.1 ∙ all_left p.loop.left _ c.if1.true))
+    let p = c in
+    (search rules, sym (p.loop-i.invariant.1 ∙ all_left p.loop-i.left _ c.if-left-eq0.true))
 
-shared-slice-read-lines-left : tie.Need-shared-slice-read-lines-left invariant-loop decreases-loop
+shared-slice-read-lines-left : tie.Need-bounds-text-i invariant-loop-i decreases-loop-i
 shared-slice-read-lines-left c = search rules
 
-lines-left-requires : tie.Need-lines-left-requires invariant-loop decreases-loop
+lines-left-requires : tie.Need-lines_left-left-requires invariant-loop-i decreases-loop-i
 lines-left-requires c κs = search rules
 
-add-i : tie.Need-overflow-add-i invariant-loop decreases-loop
+add-i : tie.Need-overflow_add-i invariant-loop-i decreases-loop-i
 add-i c = search rules
 
-loop-less : tie.Need-loop-smaller invariant-loop decreases-loop
+loop-less : tie.Need-loop-i-smaller invariant-loop-i decreases-loop-i
 loop-less c = search rules
 
-loop-again : tie.Need-loop-preserved invariant-loop decreases-loop
+loop-again : tie.Need-loop-i-preserved invariant-loop-i decreases-loop-i
 loop-again c =
-    let p = c.before.before.before.before in
-    let v = p.before.before.args.text.now in (
+    let p = c in
+    let v = p.args.text.now in (
       search rules,
-      p.loop.invariant.1 ∙
-          ap (behind_lines p.loop.left) (drop_step v p.loop.i c.before.before.before.loop-test.true) ∙
-          simp (ne_eqb _ _ c.before.before.if1.false, c.lines_left.ensures),
+      p.loop-i.invariant.1 ∙
+          ap (behind_lines p.loop-i.left) (drop_step v p.loop-i.i c.loop-i-test.true) ∙
+          simp (ne_eqb _ _ c.if-left-eq0.false, c.lines_left-left.ensures),
     )
 
-returns-2 : tie.Need-returns-2 invariant-loop decreases-loop
+returns-2 : tie.Need-returns invariant-loop-i decreases-loop-i
 returns-2 c =
-    let v = c.before.before.before.args.text.now in
-    (search rules, simp (c.before.loop.invariant.1, drop_of_length-le v c.loop-test.false))
+    let v = c.args.text.now in
+    (search rules, simp (c.loop-i.invariant.1, drop_of_length-le v c.loop-i-test.false))
 
-pub behind-lines-spec : {M : Type 1} → statement M
-behind-lines-spec =
+pub behind_lines_spec : {M : Type 1} → statement M
+behind_lines_spec =
     tie.close
     (tie.spec
-    invariant-loop
-    decreases-loop
+    invariant-loop-i
+    decreases-loop-i
     loop-holds
     returns
     shared-slice-read-lines-left

@@ -17,14 +17,14 @@ module _ (n f : ℕ) where
   inside : (f ≡ 15 → ⊥) → book_line n f ≡ n
   inside h = simp (ne_eqb f 15 h)
 
-returns : tie.Need-returns
-returns c = let a = c.before.before.args in sym (ended a.number a.field c.before.if1.true c.if2.true)
+returns : tie.Need-returns-then-number-eq-CUT_SHORT
+returns c = let a = c.args in sym (ended a.number a.field c.if-field-eq-BEHIND.true c.if-number-eq-CUT_SHORT.true)
 
-returns-2 : tie.Need-returns-2
-returns-2 c = let a = c.before.before.args in sym (behind a.number a.field c.before.if1.true c.if2.false)
+returns-2 : tie.Need-returns-else-number-eq-CUT_SHORT
+returns-2 c = let a = c.args in sym (behind a.number a.field c.if-field-eq-BEHIND.true c.if-number-eq-CUT_SHORT.false)
 
-returns-3 : tie.Need-returns-3
-returns-3 c = let a = c.before.args in sym (inside a.number a.field c.if1.false)
+returns-3 : tie.Need-returns-else-field-eq-BEHIND
+returns-3 c = let a = c.args in sym (inside a.number a.field c.if-field-eq-BEHIND.false)
 
-pub book-line-spec : {M : Type 1} → statement M
-book-line-spec = tie.close (tie.spec returns returns-2 returns-3)
+pub book_line_spec : {M : Type 1} → statement M
+book_line_spec = tie.close (tie.spec returns returns-2 returns-3)

@@ -16,30 +16,26 @@ inside book place h = rw (lt-ltb place (length book) h)
 behind : (book : List ℕ) (place : ℕ) → length book ≤ place → field_at book place ≡ 15
 behind book place h = rw (le-ltb place (length book) h)
 
-shared-slice-read-place-in : tie.Need-shared-slice-read-place-in
+shared-slice-read-place-in : tie.Need-bounds-book-place
 shared-slice-read-place-in c = search rules
 
-slice-aggregate-place-in : tie.Need-slice-aggregate-place-in
-slice-aggregate-place-in c = search rules
-
-place-in-requires : tie.Need-place-in-requires
+place-in-requires : tie.Need-place_in-requires
 place-in-requires c κs = search rules
 
-returns : tie.Need-returns
+returns : tie.Need-returns-then-place-book
 returns c =
-    let a = c.before.before.before.before.before.args in
-    let e : c.IsPlace-in.result ≡ place_in (get_or a.book.now a.place 0) tags = c.IsPlace-in.ensures in
-    e ∙ sym (inside a.book.now a.place c.before.before.before.if1.true)
+    let a = c.args in
+    let e : c.place_in.result ≡ place_in (get_or a.book.now a.place 0) tags = c.place_in.ensures in
+    e ∙ sym (inside a.book.now a.place c.if-place-book.true)
 
-returns-2 : tie.Need-returns-2
-returns-2 c = let a = c.before.before.args in sym (behind a.book.now a.place c.if1.false)
+returns-2 : tie.Need-returns
+returns-2 c = let a = c.args in sym (behind a.book.now a.place c.if-place-book.false)
 
-pub field-at-spec : {M : Type 1} → statement M
-field-at-spec =
+pub field_at_spec : {M : Type 1} → statement M
+field_at_spec =
     tie.close
     (tie.spec
     shared-slice-read-place-in
-    slice-aggregate-place-in
     place-in-requires
     returns
     returns-2)

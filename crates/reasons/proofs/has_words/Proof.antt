@@ -21,17 +21,17 @@ module _ (n : ℕ) where
   of_cuts : 20 ≤ n → 30 ≤ n → 40 ≤ n → has_words n ≡ leb n 44
   of_cuts f g h = simp (le-ltb n 20 f, le-ltb n 30 g, le-ltb n 40 h)
 
-returns : tie.Need-returns
-returns c = sym (of_book_lem c.before.args.number c.if1.true)
+returns : tie.Need-returns-then-number-lt-SHEET
+returns c = sym (of_book_lem c.args.number c.if-number-lt-SHEET.true)
 
-returns-2 : tie.Need-returns-2
-returns-2 c = let e = c.before in sym (of_sheet e.before.args.number e.if1.false c.if2.true)
+returns-2 : tie.Need-returns-then-number-lt-DAYS
+returns-2 c = let e = c in sym (of_sheet e.args.number e.if-number-lt-SHEET.false c.if-number-lt-DAYS.true)
 
-returns-3 : tie.Need-returns-3
-returns-3 c = let e = c.before.before in sym (of_days e.before.args.number e.if1.false c.before.if2.false c.if3.true)
+returns-3 : tie.Need-returns-then-number-lt-CUTS
+returns-3 c = let e = c in sym (of_days e.args.number e.if-number-lt-SHEET.false c.if-number-lt-DAYS.false c.if-number-lt-CUTS.true)
 
-returns-4 : tie.Need-returns-4
-returns-4 c = let e = c.before.before in sym (of_cuts e.before.args.number e.if1.false c.before.if2.false c.if3.false)
+returns-4 : tie.Need-returns
+returns-4 c = let e = c in sym (of_cuts e.args.number e.if-number-lt-SHEET.false c.if-number-lt-DAYS.false c.if-number-lt-CUTS.false)
 
-pub has-words-spec : {M : Type 1} → statement M
-has-words-spec = tie.close (tie.spec returns returns-2 returns-3 returns-4)
+pub has_words_spec : {M : Type 1} → statement M
+has_words_spec = tie.close (tie.spec returns returns-2 returns-3 returns-4)

@@ -2,10 +2,10 @@
 -- Assumes nothing.
 use Prim.Native.Nat.{ℕ, ◌-◌}
 use mathlib.Core.Path.{◌≡◌, sym}
-use mathlib.Core.Logic.{⊎_elim}
 use borrow.Author.Tests.{eq-eqb, ne_eqb}
 use borrow.Author.Rules.{rules}
 use Rattle.reasons.specs.Reason.{line_from}
+use Rattle.reasons.proofs.line_from.Lts.{then-number-split+else-place-ne0, else-number-split}
 use Rattle.reasons.proofs.line_from.Statement.{statement}
 use Rattle.reasons.proofs.line_from.Tie as tie
 
@@ -19,19 +19,19 @@ module _ (first split n place : ℕ) where
   other : (n ≡ split → ⊥) → line_from first split n place ≡ n - first
   other e = simp (ne_eqb n split e)
 
-returns : tie.Need-returns
-returns c = let a = c.before.before.args in sym (elsewhere a.first a.split a.number a.place c.before.if1.true c.if2.true)
+returns : tie.Need-returns-then-place-ne0
+returns c = let a = c.args in sym (elsewhere a.first a.split a.number a.place c.if-number-split.true c.if-place-ne0.true)
 
-sub-result : tie.Need-overflow-sub-result
+sub-result : tie.Need-overflow_sub-result
 sub-result c = search rules
 
-returns-2 : tie.Need-returns-2
+returns-2 : tie.Need-returns
 returns-2 c =
-    let a = c.before.args in
-    sym (⊎_elim
-    (λ t. at_first a.first a.split a.number a.place t.0.taken t.1.left)
-    (λ e. other a.first a.split a.number a.place e.left)
-    c.if1.branch)
+    let a = c.args in
+    sym (elim c.if-number-split.branch [
+      then-number-split+else-place-ne0 w ↦ at_first a.first a.split a.number a.place w.if-number-split.true w.if-place-ne0.false
+      | else-number-split w ↦ other a.first a.split a.number a.place w.if-number-split.false
+    ])
 
-pub line-from-spec : {M : Type 1} → statement M
-line-from-spec = tie.close (tie.spec returns sub-result returns-2)
+pub line_from_spec : {M : Type 1} → statement M
+line_from_spec = tie.close (tie.spec returns sub-result returns-2)

@@ -19,14 +19,14 @@ module _ (n f : ℕ) where
   no_field : 14 ≤ f → named n f ≡ false
   no_field h = simp (le-ltb f 14 h)
 
-returns : tie.Need-returns
-returns c = let a = c.before.before.args in sym (from-two a.number a.field c.before.if1.true c.if2.true)
+returns : tie.Need-returns-then-number-ge-CUT_SHORT
+returns c = let a = c.args in sym (from-two a.number a.field c.if-field-lt-NO_TAG.true c.if-number-ge-CUT_SHORT.true)
 
-returns-2 : tie.Need-returns-2
-returns-2 c = let a = c.before.before.args in sym (before-two a.number a.field c.before.if1.true c.if2.false)
+returns-2 : tie.Need-returns-else-number-ge-CUT_SHORT
+returns-2 c = let a = c.args in sym (before-two a.number a.field c.if-field-lt-NO_TAG.true c.if-number-ge-CUT_SHORT.false)
 
-returns-3 : tie.Need-returns-3
-returns-3 c = let a = c.before.args in sym (no_field a.number a.field c.if1.false)
+returns-3 : tie.Need-returns-else-field-lt-NO_TAG
+returns-3 c = let a = c.args in sym (no_field a.number a.field c.if-field-lt-NO_TAG.false)
 
-pub names-field-spec : {M : Type 1} → statement M
-names-field-spec = tie.close (tie.spec returns returns-2 returns-3)
+pub names_field_spec : {M : Type 1} → statement M
+names_field_spec = tie.close (tie.spec returns returns-2 returns-3)

@@ -5,82 +5,82 @@ use Rattle.reasons.proofs.Words.{room, wrote, of_book_lem, of_sheet, of_days, of
 use Rattle.reasons.proofs.put_known.Statement.{statement}
 use Rattle.reasons.proofs.put_known.Tie as tie
 
-put-of-book-requires : tie.Need-put-of-book-requires
+put-of-book-requires : tie.Need-put_of_book-requires
 put-of-book-requires c κs =
-    let i = c.before in
-    let s = i.before.before in
-    room s.args.at s.args.out.now (of_book_lem s.args.number s.args.place s.args.field i.if1.true) s.requires
+    let i = c in
+    let s = i in
+    room s.args.at s.args.out.now (of_book_lem s.args.number s.args.place s.args.field i.if-number-lt-SHEET.true) s.requires
 
-same_length : tie.Need-same-length
+same_length : tie.Need-shape_of-out-then-number-lt-SHEET
 same_length c = search rules
 
-returns : tie.Need-returns
+returns : tie.Need-returns-then-number-lt-SHEET
 returns c =
-    let w = c.before.before in
-    let i = w.before.before in
-    let a = i.before.before.args in
-    wrote (of_book_lem a.number a.place a.field i.if1.true) w.put-of-book.ensures
+    let w = c in
+    let i = w in
+    let a = i.args in
+    wrote (of_book_lem a.number a.place a.field i.if-number-lt-SHEET.true) w.put_of_book.ensures
 
-put-of-sheet-requires : tie.Need-put-of-sheet-requires
+put-of-sheet-requires : tie.Need-put_of_sheet-requires
 put-of-sheet-requires c κs =
-    let i = c.before in
-    let e = i.before in
-    let s = e.before.before in
-    (e.if1.false, room s.args.at s.args.out.now (of_sheet s.args.number s.args.place s.args.field e.if1.false i.if2.true) s.requires)
+    let i = c in
+    let e = i in
+    let s = e in
+    (e.if-number-lt-SHEET.false, room s.args.at s.args.out.now (of_sheet s.args.number s.args.place s.args.field e.if-number-lt-SHEET.false i.if-number-lt-DAYS.true) s.requires)
 
-same-length-2 : tie.Need-same-length-2
+same-length-2 : tie.Need-shape_of-out-then-number-lt-DAYS
 same-length-2 c = search rules
 
-returns-2 : tie.Need-returns-2
+returns-2 : tie.Need-returns-then-number-lt-DAYS
 returns-2 c =
-    let w = c.before.before in
-    let i = w.before.before in
-    let e = i.before in
-    let a = e.before.before.args in
-    wrote (of_sheet a.number a.place a.field e.if1.false i.if2.true) w.put-of-sheet.ensures
+    let w = c in
+    let i = w in
+    let e = i in
+    let a = e.args in
+    wrote (of_sheet a.number a.place a.field e.if-number-lt-SHEET.false i.if-number-lt-DAYS.true) w.put_of_sheet.ensures
 
-put-of-days-requires : tie.Need-put-of-days-requires
+put-of-days-requires : tie.Need-put_of_days-requires
 put-of-days-requires c κs =
-    let i = c.before in
-    let f = i.before in
-    let e = f.before in
-    let s = e.before.before in
-    (f.if2.false, room s.args.at s.args.out.now (of_days s.args.number s.args.place s.args.field e.if1.false f.if2.false i.if3.true) s.requires)
+    let i = c in
+    let f = i in
+    let e = f in
+    let s = e in
+    (f.if-number-lt-DAYS.false, room s.args.at s.args.out.now (of_days s.args.number s.args.place s.args.field e.if-number-lt-SHEET.false f.if-number-lt-DAYS.false i.if-number-lt-CUTS.true) s.requires)
 
-same-length-3 : tie.Need-same-length-3
+same-length-3 : tie.Need-shape_of-out-then-number-lt-CUTS
 same-length-3 c = search rules
 
-returns-3 : tie.Need-returns-3
+returns-3 : tie.Need-returns-then-number-lt-CUTS
 returns-3 c =
-    let w = c.before.before in
-    let i = w.before.before in
-    let f = i.before in
-    let e = f.before in
-    let a = e.before.before.args in
-    wrote (of_days a.number a.place a.field e.if1.false f.if2.false i.if3.true) w.put-of-days.ensures
+    let w = c in
+    let i = w in
+    let f = i in
+    let e = f in
+    let a = e.args in
+    wrote (of_days a.number a.place a.field e.if-number-lt-SHEET.false f.if-number-lt-DAYS.false i.if-number-lt-CUTS.true) w.put_of_days.ensures
 
-put-of-cuts-requires : tie.Need-put-of-cuts-requires
+put-of-cuts-requires : tie.Need-put_of_cuts-requires
 put-of-cuts-requires c κs =
-    let i = c.before in
-    let f = i.before in
-    let e = f.before in
-    let s = e.before.before in
-    (i.if3.false, room s.args.at s.args.out.now (of_cuts s.args.number s.args.place s.args.field e.if1.false f.if2.false i.if3.false) s.requires)
+    let i = c in
+    let f = i in
+    let e = f in
+    let s = e in
+    (i.if-number-lt-CUTS.false, room s.args.at s.args.out.now (of_cuts s.args.number s.args.place s.args.field e.if-number-lt-SHEET.false f.if-number-lt-DAYS.false i.if-number-lt-CUTS.false) s.requires)
 
-same-length-4 : tie.Need-same-length-4
+same-length-4 : tie.Need-shape_of-out
 same-length-4 c = search rules
 
-returns-4 : tie.Need-returns-4
+returns-4 : tie.Need-returns
 returns-4 c =
-    let w = c.before.before in
-    let i = w.before.before in
-    let f = i.before in
-    let e = f.before in
-    let a = e.before.before.args in
-    wrote (of_cuts a.number a.place a.field e.if1.false f.if2.false i.if3.false) w.put-of-cuts.ensures
+    let w = c in
+    let i = w in
+    let f = i in
+    let e = f in
+    let a = e.args in
+    wrote (of_cuts a.number a.place a.field e.if-number-lt-SHEET.false f.if-number-lt-DAYS.false i.if-number-lt-CUTS.false) w.put_of_cuts.ensures
 
-pub put-known-spec : {M : Type 1} → statement M
-put-known-spec =
+pub put_known_spec : {M : Type 1} → statement M
+put_known_spec =
     tie.close
     (tie.spec
     put-of-book-requires

@@ -8,37 +8,29 @@ use Rattle.reasons.specs.Sizes.{with_length}
 use Rattle.reasons.proofs.put_named.Statement.{statement}
 use Rattle.reasons.proofs.put_named.Tie as tie
 
-slice-aggregate-put-line : tie.Need-slice-aggregate-put-line
-slice-aggregate-put-line c = search rules
+put-line-requires : tie.Need-put_line-name-requires
+put-line-requires c κs = let a = c.args in omega (arith, with_length a.number a.field)
 
-put-line-requires : tie.Need-put-line-requires
-put-line-requires c κs = let a = c.before.before.before.args in omega (arith, with_length a.number a.field)
-
-slice-aggregate-put-line-2 : tie.Need-slice-aggregate-put-line-2
-slice-aggregate-put-line-2 c = search rules
-
-put-line-requires-2 : tie.Need-put-line-requires-2
+put-line-requires-2 : tie.Need-put_line-requires
 put-line-requires-2 c κs =
-    let a = c.before.before.before.before.before.before.before.before.args in
-    omega (arith, with_length a.number a.field, c.before.before.before.before.put_line.ensures.next)
+    let a = c.args in
+    omega (arith, with_length a.number a.field, c.put_line-name.ensures.next)
 
-same_length : tie.Need-same-length
+same_length : tie.Need-shape_of-out
 same_length c = search rules
 
 returns : tie.Need-returns
 unfolding with_field
 returns c =
-    let second = c.before.before in
-    let first = second.before.before.before.before.before in
-    join first.put_line.ensures second.put-line2.ensures (omega arith)
+    let second = c in
+    let first = second in
+    join first.put_line-name.ensures second.put_line.ensures (omega arith)
 
-pub put-named-spec : {M : Type 1} → statement M
-put-named-spec =
+pub put_named_spec : {M : Type 1} → statement M
+put_named_spec =
     tie.close
     (tie.spec
-    slice-aggregate-put-line
     put-line-requires
-    slice-aggregate-put-line-2
     put-line-requires-2
     same_length
     returns)

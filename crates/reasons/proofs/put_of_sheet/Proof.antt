@@ -9,29 +9,30 @@ use Rattle.reasons.specs.Reason.{sheet}
 use Rattle.reasons.proofs.put_of_sheet.Statement.{statement}
 use Rattle.reasons.proofs.put_of_sheet.Tie as tie
 
-line-from-requires : tie.Need-line-from-requires
+line-from-requires : tie.Need-line_from-line-requires
 line-from-requires c κs = search rules
 
-slice-aggregate-put-line : tie.Need-slice-aggregate-put-line
-slice-aggregate-put-line c = search rules
-
-put-line-requires : tie.Need-put-line-requires
+put-line-requires : tie.Need-put_line-requires
 put-line-requires c κs =
-    let l = c.before.before in
-    let s = l.before.before in
-    subst (λ (k : ℕ). Room s.args.at (line_of k sheet) s.args.out.now) (sym l.line-from.ensures) s.requires.1
+    let l = c in
+    let s = l in
+    subst (λ (k : ℕ). Room s.args.at (line_of k sheet) s.args.out.now) (sym l.line_from-line.ensures) s.requires.1
 
-same_length : tie.Need-same-length
+same_length : tie.Need-shape_of-out
 same_length c = search rules
 
 returns : tie.Need-returns
 returns c =
-    let w = c.before.before in
-    let l = w.before.before.before in
-    let a = l.before.before.args in
-    subst (λ (k : ℕ). Wrote a.at (line_of k sheet) a.out.now w.put_line.new.0 w.put_line.result) l.line-from.ensures w.put_line.ensures
+    let w = c in
+    let l = w in
+    let a = l.args in
+    subst (λ (k : ℕ). Wrote a.at (line_of k sheet) a.out.now w.put_line.new.out w.put_line.result) l.line_from-line.ensures w.put_line.ensures
 
-pub put-of-sheet-spec : {M : Type 1} → statement M
-put-of-sheet-spec =
+pub put_of_sheet_spec : {M : Type 1} → statement M
+put_of_sheet_spec =
     tie.close
-    (tie.spec line-from-requires slice-aggregate-put-line put-line-requires same_length returns)
+    (tie.spec
+    line-from-requires
+    put-line-requires
+    same_length
+    returns)

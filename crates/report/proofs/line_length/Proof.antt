@@ -7,33 +7,33 @@ use borrow.Author.Rules.{rules}
 use Rattle.report.proofs.line_length.Statement.{statement}
 use Rattle.report.proofs.line_length.Tie as tie
 
-size-at-requires : tie.Need-size-at-requires
+size-at-requires : tie.Need-size_at-size-requires
 size-at-requires c κs = search rules
 
-reported-length-requires : tie.Need-reported-length-requires
+reported-length-requires : tie.Need-reported_length-own-requires
 reported-length-requires c κs = search rules
 
-add-seats-length : tie.Need-overflow-add-seats-length
+add-seats-length : tie.Need-overflow_add-start
 add-seats-length c = search rules
 
-seats-length-requires : tie.Need-seats-length-requires
+seats-length-requires : tie.Need-seats_length-requires
 seats-length-requires c κs =
-    due_is c.before.before.before.requires c.before.size-at.ensures
+    due_is c.requires c.size_at-size.ensures
 
-add-result : tie.Need-overflow-add-result
+add-result : tie.Need-overflow_add-result
 add-result c =
-    let s = c.before.before.before.before in omega (arith, digits_length_20 s.args.offset s.ranges.offset.fits, c.before.reported_length_lem.ensures, c.seats_length.ensures.1, c.before.before.size-at.ensures, s.requires.short)
+    let s = c in omega (arith, digits_length_20 s.args.offset s.ranges.offset.fits, c.reported_length-own.ensures, c.seats_length.ensures.1, c.size_at-size.ensures, s.requires.short)
 
 returns : tie.Need-returns
 returns c =
-    let s = c.before.before.before.before in
+    let s = c in
     let fits = digits_length_20 s.args.offset s.ranges.offset.fits in
-    let size = c.before.before.size-at.ensures in
+    let size = c.size_at-size.ensures in
     let z = c.seats_length.ensures in
-    (omega (arith, z.0, c.before.reported_length_lem.ensures, line_size s.requires size), omega (arith, fits, z.1, c.before.reported_length_lem.ensures, size, s.requires.short))
+    (omega (arith, z.0, c.reported_length-own.ensures, line_size s.requires size), omega (arith, fits, z.1, c.reported_length-own.ensures, size, s.requires.short))
 
-pub line-length-spec : {M : Type 1} → statement M
-line-length-spec =
+pub line_length_spec : {M : Type 1} → statement M
+line_length_spec =
     tie.close
     (tie.spec
     size-at-requires

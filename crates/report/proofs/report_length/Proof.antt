@@ -29,92 +29,92 @@ whole_length s =
     ∙ length-append (report_head s.total s.residue) (first (λ i. reported (line_at s i)) s.count)
     ∙ ap (λ n. length (report_head s.total s.residue) + n) (first_length (λ i. reported (line_at s i)) s.count)
 
-abbrev invariant-loop : tie.invariant-loop
-invariant-loop book starts standings offset count total residue long n₀ i₀ n i =
+abbrev invariant-loop-i : tie.invariant-loop-i
+invariant-loop-i book starts standings offset count total residue long n₀ i₀ n i =
     (i ≤ count) × (n ≤ 46 + 194 * i) × (n ≡ n₀ + sum_of (lengthIn (sheet book starts standings offset count total residue)) (up_to i))
 
-abbrev decreases-loop : tie.decreases-loop
-decreases-loop book starts standings offset count total residue long n₀ i₀ n i = count - i
+abbrev decreases-loop-i : tie.decreases-loop-i
+decreases-loop-i book starts standings offset count total residue long n₀ i₀ n i = count - i
 
-abbrev start : tie.At-loop invariant-loop decreases-loop → tie.Start invariant-loop decreases-loop
+abbrev start : tie.At-loop-i invariant-loop-i decreases-loop-i → tie.Start invariant-loop-i decreases-loop-i
 start b = b.before.before.before.before.before.before
 
-abbrev all : tie.Start invariant-loop decreases-loop → Sheet
+abbrev all : tie.Start invariant-loop-i decreases-loop-i → Sheet
 all s = let a = s.args in sheet a.book.now a.starts.now a.standings.now a.offset.now a.count a.total a.residue
 
-head-length-requires : tie.Need-head-length-requires invariant-loop decreases-loop
+head-length-requires : tie.Need-head_length-n-requires invariant-loop-i decreases-loop-i
 head-length-requires c κs = search rules
 
-loop-holds : tie.Need-loop-init invariant-loop decreases-loop
+loop-holds : tie.Need-loop-i-init invariant-loop-i decreases-loop-i
 loop-holds c =
-    let a = c.before.before.before.before.before.args in
+    let a = c.args in
     let total = digits_length_20 a.total (search rules) in
     let residue = digits_length_20 a.residue (search rules) in
-    (search rules, omega (arith, total, residue, report_head_length a.total a.residue, c.head_length.ensures), omega arith)
+    (search rules, omega (arith, total, residue, report_head_length a.total a.residue, c.head_length-n.ensures), omega arith)
 
-shared-slice-read-standing-of : tie.Need-shared-slice-read-standing-of invariant-loop decreases-loop
+shared-slice-read-standing-of : tie.Need-bounds-standings-i invariant-loop-i decreases-loop-i
 shared-slice-read-standing-of c = search rules
 
-standing-of-requires : tie.Need-standing-of-requires invariant-loop decreases-loop
+standing-of-requires : tie.Need-standing_of-standing-requires invariant-loop-i decreases-loop-i
 standing-of-requires c κs = search rules
 
-mul-line-length : tie.Need-overflow-mul-line-length invariant-loop decreases-loop
+mul-line-length : tie.Need-offset_bounds-starts-i invariant-loop-i decreases-loop-i
 mul-line-length c = search rules
 
-shared-slice-read-line-length : tie.Need-shared-slice-read-line-length invariant-loop decreases-loop
+shared-slice-read-line-length : tie.Need-bounds-starts-i invariant-loop-i decreases-loop-i
 shared-slice-read-line-length c = search rules
 
-cast-line-length : tie.Need-overflow-cast-line-length invariant-loop decreases-loop
-cast-line-length c = omega (arith, c.shared-slice-known6.given c.before.before.before.before.loop.i)
+cast-line-length : tie.Need-overflow_cast-starts invariant-loop-i decreases-loop-i
+cast-line-length c = omega (arith, c.shared_slice_known-in-loop-i-2-1.given c.loop-i.i)
 
-mul-line-length-2 : tie.Need-overflow-mul-line-length-2 invariant-loop decreases-loop
+mul-line-length-2 : tie.Need-offset_bounds-offset-i invariant-loop-i decreases-loop-i
 mul-line-length-2 c = search rules
 
-shared-slice-read-line-length-2 : tie.Need-shared-slice-read-line-length-2 invariant-loop decreases-loop
+shared-slice-read-line-length-2 : tie.Need-bounds-offset-i invariant-loop-i decreases-loop-i
 shared-slice-read-line-length-2 c = search rules
 
-cast-line-length-2 : tie.Need-overflow-cast-line-length-2 invariant-loop decreases-loop
-cast-line-length-2 c = omega (arith, c.shared-slice-known7.given c.before.before.before.before.before.loop.i)
+cast-line-length-2 : tie.Need-overflow_cast-offset invariant-loop-i decreases-loop-i
+cast-line-length-2 c = omega (arith, c.shared_slice_known-in-loop-i-3-1.given c.loop-i.i)
 
-line-length-requires : tie.Need-line-length-requires invariant-loop decreases-loop
+line-length-requires : tie.Need-line_length-n-requires invariant-loop-i decreases-loop-i
 line-length-requires c κs =
-    let b = c.before.before.before.before.before in
-    let s = start b in
-    let i = b.loop.i in
-    subst (λ (t : Standing). Seated s.args.book.now (get_or s.args.starts.now i 0) t (get_or s.args.offset.now i 0) s.args.long) (sym c.before.before.standing_of.ensures) (s.pre.seated i (omega arith))
+    let b = c in
+    let s = start c.before.before.before.before.before in
+    let i = b.loop-i.i in
+    subst (λ (t : Standing). Seated s.args.book.now (get_or s.args.starts.now i 0) t (get_or s.args.offset.now i 0) s.args.long) (sym c.standing_of-standing.ensures) (s.requires.seated i (omega arith))
 
-add-n : tie.Need-overflow-add-n invariant-loop decreases-loop
-add-n c = let b = c.before.before.before.before.before.before in omega (arith, (start b).requires.few, c.line_length.ensures.1, b.loop.invariant.1)
+add-n : tie.Need-overflow_add-n invariant-loop-i decreases-loop-i
+add-n c = let b = c in omega (arith, (start c.before.before.before.before.before.before).requires.few, c.line_length-n.ensures.1, b.loop-i.invariant.1)
 
-add-i : tie.Need-overflow-add-i invariant-loop decreases-loop
+add-i : tie.Need-overflow_add-i invariant-loop-i decreases-loop-i
 add-i c = search rules
 
-loop-less : tie.Need-loop-smaller invariant-loop decreases-loop
+loop-less : tie.Need-loop-i-smaller invariant-loop-i decreases-loop-i
 loop-less c = search rules
 
-loop-again : tie.Need-loop-preserved invariant-loop decreases-loop
+loop-again : tie.Need-loop-i-preserved invariant-loop-i decreases-loop-i
 loop-again c =
-    let b = c.before.before.before.before.before.before in
-    let s = start b in
-    let i = b.loop.i in
-    let z = c.line_length.ensures in
-    let e = z.0 ∙ ap (λ (t : Standing). length (reported (line_from s.args.book.now (get_or s.args.starts.now i 0) t (get_or s.args.offset.now i 0)))) c.before.before.before.standing_of.ensures in
-    (search rules, omega (arith, z.1, b.loop.invariant.1), rw sum_more (omega (arith, e, b.loop.invariant.2)))
+    let b = c in
+    let s = start c.before.before.before.before.before.before in
+    let i = b.loop-i.i in
+    let z = c.line_length-n.ensures in
+    let e = z.0 ∙ ap (λ (t : Standing). length (reported (line_from s.args.book.now (get_or s.args.starts.now i 0) t (get_or s.args.offset.now i 0)))) c.standing_of-standing.ensures in
+    (search rules, omega (arith, z.1, b.loop-i.invariant.1), rw sum_more (omega (arith, e, b.loop-i.invariant.2)))
 
-returns : tie.Need-returns invariant-loop decreases-loop
+returns : tie.Need-returns invariant-loop-i decreases-loop-i
 returns c =
-    let b = c.before in
-    let s = start b in
-    let e : b.loop.i ≡ s.args.count = omega arith in
-    let sum = rw e at b.loop.invariant.2 in
-    omega (arith, sum, b.before.head_length.ensures, whole_length (all s))
+    let b = c in
+    let s = start c.before in
+    let e : b.loop-i.i ≡ s.args.count = omega arith in
+    let sum = rw e at b.loop-i.invariant.2 in
+    omega (arith, sum, b.head_length-n.ensures, whole_length (all s))
 
-pub report-length-spec : {M : Type 1} → statement M
-report-length-spec =
+pub report_length_spec : {M : Type 1} → statement M
+report_length_spec =
     tie.close
     (tie.spec
-    invariant-loop
-    decreases-loop
+    invariant-loop-i
+    decreases-loop-i
     head-length-requires
     loop-holds
     shared-slice-read-standing-of

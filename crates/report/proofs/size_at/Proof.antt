@@ -6,17 +6,17 @@ use borrow.Author.Rules.{rules}
 use Rattle.report.proofs.size_at.Statement.{statement}
 use Rattle.report.proofs.size_at.Tie as tie
 
-sub-result : tie.Need-overflow-sub-result
+sub-result : tie.Need-overflow_sub-result
 sub-result c = search rules
 
-shared-slice-read-result : tie.Need-shared-slice-read-result
+shared-slice-read-result : tie.Need-bounds-book-start
 shared-slice-read-result c = search rules
 
-cast-result : tie.Need-overflow-cast-result
-cast-result c = omega (arith, c.shared-slice-known.given (c.before.args.start - 1))
+cast-result : tie.Need-overflow_cast-result
+cast-result c = omega (arith, c.shared_slice_known-1.given (c.args.start - 1))
 
 returns : tie.Need-returns
 returns c = search rules
 
-pub size-at-spec : {M : Type 1} → statement M
-size-at-spec = tie.close (tie.spec sub-result shared-slice-read-result cast-result returns)
+pub size_at_spec : {M : Type 1} → statement M
+size_at_spec = tie.close (tie.spec sub-result shared-slice-read-result cast-result returns)

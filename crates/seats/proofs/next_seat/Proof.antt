@@ -19,26 +19,46 @@ abbrev from : tie.After-known-told → tie.Start
 from c = c.before.before.before.before.before
 
 -- I, K, H and Q, each behind the one before
+<<<<<<< HEAD
 seat : (c : tie.After-known-told) → let f = c.before.tag.given.0 in Stands (book_of (from c)) (from c).args.at f.0 f.1.0 f.1.1.0
 seat c = stands _ _ _ _ _ (sym c.before.before.before.field_at.ensures ∙ c.before.tag.given.1)
+=======
+seat : (c : tie.In-Field) → let f = c.in-Field in Stands (book_of (from c)) (from c).args.at f.tag f.start f.end
+seat c = stands _ _ _ _ _ (sym c.field_at.ensures ∙ c.in-Field.is)
+>>>>>>> a58286b830dbca25d157071f7f702fe5c3e885e4
 
 abbrev first : tie.After-known-told2 → tie.After-known-told
 first c = c.before.before.before.before.before
 
+<<<<<<< HEAD
 long : (c : tie.After-known-told2) → let f = c.before.short.given.0 in Stands (book_of (from (first c))) (first c).before.tag.given.0.1.1.0 f.0 f.1.0 f.1.1.0
 long c = stands _ _ _ _ _ (sym c.before.before.before.field-at2.ensures ∙ c.before.short.given.1)
+=======
+long : (c : tie.In-Field-field_at) → let f = c.in-Field-field_at in Stands (book_of (from (first c))) (first c).in-Field.end f.tag f.start f.short
+long c = stands _ _ _ _ _ (sym c.field_at-2.ensures ∙ c.in-Field-field_at.is)
+>>>>>>> a58286b830dbca25d157071f7f702fe5c3e885e4
 
 abbrev second : tie.After-known-told3 → tie.After-known-told2
 second c = c.before.before.before.before
 
+<<<<<<< HEAD
 short : (c : tie.After-known-told3) → let f = c.before.unfilled.given.0 in Stands (book_of (from (first (second c)))) (second c).before.short.given.0.1.1.0 f.0 f.1.0 f.1.1.0
 short c = stands _ _ _ _ _ (sym c.before.before.before.field-at3.ensures ∙ c.before.unfilled.given.1)
+=======
+short : (c : tie.In-Field-field_at-2) → let f = c.in-Field-field_at-2 in Stands (book_of (from (first (second c)))) (second c).in-Field-field_at.short f.tag f.start f.unfilled
+short c = stands _ _ _ _ _ (sym c.field_at-3.ensures ∙ c.in-Field-field_at-2.is)
+>>>>>>> a58286b830dbca25d157071f7f702fe5c3e885e4
 
 abbrev third : tie.After-known-told4 → tie.After-known-told3
 third c = c.before.before.before.before
 
+<<<<<<< HEAD
 unfilled : (c : tie.After-known-told4) → let f = c.before.next.given.0 in Stands (book_of (from (first (second (third c))))) (third c).before.unfilled.given.0.1.1.0 f.0 f.1.0 f.1.1.0
 unfilled c = stands _ _ _ _ _ (sym c.before.before.before.field-at4.ensures ∙ c.before.next.given.1)
+=======
+unfilled : (c : tie.In-Field-field_at-3) → let f = c.in-Field-field_at-3 in Stands (book_of (from (first (second (third c))))) (third c).in-Field-field_at-2.unfilled f.tag f.start f.next
+unfilled c = stands _ _ _ _ _ (sym c.field_at-4.ensures ∙ c.in-Field-field_at-3.is)
+>>>>>>> a58286b830dbca25d157071f7f702fe5c3e885e4
 
 field-at-requires : tie.Need-field-at-requires
 field-at-requires c κs = search rules

@@ -42,6 +42,7 @@ weigh-requires c κs = let s = start c.before.before.before.before in (law.stake
 lesser-requires : tie.Need-lesser-requires
 lesser-requires c κs = search rules
 
+<<<<<<< HEAD
 found : (l : tie.After-lesser) → let s = began l in Found s.args.k (cols s) s.args.self l.lesser.result (offers (waited l)).staked.result (waited l).weigh.result
 found l =
     let s = began l in
@@ -52,6 +53,18 @@ found l =
       offers = (offers (waited l)).staked.ensures ∙ law.offers_are s.args.k s.pre.1.0 s.args.standings.now s.args.stakes.now s.args.self.offset s.args.count;
       waits = (waited l).weigh.ensures.sum;
       smaller = l.lesser.ensures;
+=======
+found : (l : tie.After-lesser-x) → let s = began l in Found s.args.k (cols s) s.args.self l.lesser-x.result (offers (waited l)).staked-offered.result (waited l).weigh-pending.result
+found l =
+    let s = began l in
+    record {
+      steady = s.requires.0;
+      first = s.requires.1.0;
+      last = s.requires.1.1;
+      offers = (offers (waited l)).staked-offered.ensures ∙ law.offers_are s.args.k s.requires.1.0 s.args.standings.now s.args.stakes.now s.args.self.offset s.args.count;
+      waits = (waited l).weigh-pending.ensures.sum;
+      smaller = l.lesser-x.ensures;
+>>>>>>> a58286b830dbca25d157071f7f702fe5c3e885e4
     }
 
 returns-2 : tie.Need-returns-2
@@ -65,9 +78,15 @@ slice-aggregate-deal-2 c = search rules
 
 deal-requires : tie.Need-deal-requires
 deal-requires c κs =
+<<<<<<< HEAD
     let l = c.before.before.before in
     let w = (waited l).weigh.ensures in
     (law.pending_lent (found l) w, law.pending_open (found l) w)
+=======
+    let l = c in
+    let w = (waited c.before.before.before).weigh-pending.ensures in
+    (law.pending_lent (found c.before.before.before) w, law.pending_open (found c.before.before.before) w)
+>>>>>>> a58286b830dbca25d157071f7f702fe5c3e885e4
 
 -- the first division is done
 abbrev counted : tie.After-deal → tie.After-lesser
@@ -81,9 +100,15 @@ slice-aggregate-weigh-4 c = search rules
 
 weigh-requires-2 : tie.Need-weigh-requires-2
 weigh-requires-2 c κs =
+<<<<<<< HEAD
     let d = c.before.before.before.before in
     let l = counted d in
     let w = (waited l).weigh.ensures in
+=======
+    let d = c in
+    let l = counted c.before.before.before.before in
+    let w = (waited l).weigh-pending.ensures in
+>>>>>>> a58286b830dbca25d157071f7f702fe5c3e885e4
     (law.mid_staked (found l) w d.deal.ensures.0, omega (arith, d.deal.ensures.1, law.weighed_room w))
 
 slice-aggregate-deal-3 : tie.Need-slice-aggregate-deal-3
@@ -94,22 +119,38 @@ slice-aggregate-deal-4 c = search rules
 
 deal-requires-2 : tie.Need-deal-requires-2
 deal-requires-2 c κs =
+<<<<<<< HEAD
     let v = c.before.before.before in
     let d = v.before.before.before.before.before in
     let l = counted d in
     let w = (waited l).weigh.ensures in
     (law.offered_lent (found l) w d.deal.ensures.0 v.weigh2.ensures, law.offered_open (found l) w d.deal.ensures.0 v.weigh2.ensures)
+=======
+    let v = c in
+    let d = v in
+    let l = counted c.before.before.before.before.before.before.before.before in
+    let w = (waited l).weigh-pending.ensures in
+    (law.offered_lent (found l) w d.deal.ensures.0 v.weigh.ensures, law.offered_open (found l) w d.deal.ensures.0 v.weigh.ensures)
+>>>>>>> a58286b830dbca25d157071f7f702fe5c3e885e4
 
 add-t22 : tie.Need-overflow-add-t22
 add-t22 c = omega (arith, law.total_fits (found (counted c.before.before.before.before.before.before.before.before.before.before.before.before)))
 
 returns-3 : tie.Need-returns-3
 returns-3 c =
+<<<<<<< HEAD
     let y = c.before.before.before in
     let v = y.before.before.before.before in
     let d = v.before.before.before.before.before in
     let l = counted d in
     law.worked (found l) (waited l).weigh.ensures d.deal.ensures.0 v.weigh2.ensures y.deal2.ensures.0
+=======
+    let y = c in
+    let v = y in
+    let d = v in
+    let l = counted c.before.before.before.before.before.before.before.before.before.before.before.before in
+    law.worked (found l) (waited l).weigh-pending.ensures d.deal.ensures.0 v.weigh.ensures y.deal-2.ensures.0
+>>>>>>> a58286b830dbca25d157071f7f702fe5c3e885e4
 
 pub tier-spec : {M : Type 1} → statement M
 tier-spec =

@@ -79,7 +79,7 @@ slice-aggregate-to-columns-4 c = search rules
 
 to-columns-requires : tie.Need-to-columns-requires invariant-loop decreases-loop
 to-columns-requires c κs =
-    let s = (begin c.before.before.before.before.before.before.before).pre in
+    let s = (begin c.before.before.before.before.before.before.before).requires in
     record { few = s.few; keyed = omega (arith, s.few); stood = omega (arith, s.few); staked = omega (arith, s.few); wide = s.wide }
 
 returns : tie.Need-returns invariant-loop decreases-loop

@@ -42,9 +42,15 @@ loop-less c = search rules
 
 loop-again : tie.Need-loop-preserved invariant-loop decreases-loop
 loop-again c =
+<<<<<<< HEAD
     let b = c.before.before in
     let rows = b.before.args.t1 in
     (search rules, done_more b.loop.invariant.1 (omega (arith, b.before.requires.1)) (value_is rows b.loop.i key_in refl))
+=======
+    let b = c in
+    let rows = b.args.rows in
+    (search rules, done_more b.loop-i.invariant.1 (omega (arith, b.requires.1)) (value_is rows b.loop-i.i key_in refl))
+>>>>>>> a58286b830dbca25d157071f7f702fe5c3e885e4
 
 same_length : tie.Need-same-length invariant-loop decreases-loop
 same_length c = search rules

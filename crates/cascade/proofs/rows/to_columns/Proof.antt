@@ -61,10 +61,17 @@ loop-less c = search rules
 
 loop-again : tie.Need-loop-preserved invariant-loop decreases-loop
 loop-again c =
+<<<<<<< HEAD
     let b = c.before.before in
     let v = b.loop.invariant in
     let p = b.before.requires in
     let rows = b.before.args.t1 in (
+=======
+    let b = c in
+    let v = b.loop-i.invariant in
+    let p = b.requires in
+    let rows = b.args.rows in (
+>>>>>>> a58286b830dbca25d157071f7f702fe5c3e885e4
       search rules,
       done_more v.1 (omega (arith, p.keyed)) (value_is rows b.loop.i key_in refl),
       done_more v.2 (omega (arith, p.stood)) (value_is rows b.loop.i standing_in refl),

@@ -4,14 +4,14 @@ use Rattle.cutback.proofs.Lots.{first_larger, first_equal, first_not}
 use Rattle.cutback.proofs.seats.goes_before.Statement.{statement}
 use Rattle.cutback.proofs.seats.goes_before.Tie as tie
 
-returns : tie.Need-returns
-returns c = let a = c.before.args in first_larger a.key a.lots a.other a.held c.if1.true
+returns : tie.Need-returns-then-held-lots
+returns c = let a = c.args in first_larger a.key a.lots a.other a.held c.if-held-lots.true
 
-returns-2 : tie.Need-returns-2
-returns-2 c = let a = c.before.before.args in first_equal a.key a.lots a.other a.held c.before.if1.false c.if2.true
+returns-2 : tie.Need-returns-then-held-lots-2
+returns-2 c = let a = c.args in first_equal a.key a.lots a.other a.held c.if-held-lots.false c.if-held-lots-2.true
 
-returns-3 : tie.Need-returns-3
-returns-3 c = let a = c.before.before.args in first_not a.key a.lots a.other a.held c.before.if1.false c.if2.false
+returns-3 : tie.Need-returns
+returns-3 c = let a = c.args in first_not a.key a.lots a.other a.held c.if-held-lots.false c.if-held-lots-2.false
 
-pub goes-before-spec : {M : Type 1} → statement M
-goes-before-spec = tie.close (tie.spec returns returns-2 returns-3)
+pub goes_before_spec : {M : Type 1} → statement M
+goes_before_spec = tie.close (tie.spec returns returns-2 returns-3)

@@ -10,66 +10,66 @@ use Rattle.cutback.specs.Keyed.{at, cut_at}
 use Rattle.cutback.proofs.seats.put_cuts.Statement.{statement}
 use Rattle.cutback.proofs.seats.put_cuts.Tie as tie
 
-abbrev invariant-loop : tie.invariant-loop
-invariant-loop keys lots over cuts₀ i₀ cuts i = (i ≤ length lots) × Done (cut_at keys lots over) i cuts₀ cuts
+abbrev invariant-loop-i : tie.invariant-loop-i
+invariant-loop-i keys lots over cuts₀ i₀ cuts i = (i ≤ length lots) × Done (cut_at keys lots over) i cuts₀ cuts
 
-abbrev decreases-loop : tie.decreases-loop
-decreases-loop keys lots over cuts₀ i₀ cuts i = length lots - i
+abbrev decreases-loop-i : tie.decreases-loop-i
+decreases-loop-i keys lots over cuts₀ i₀ cuts i = length lots - i
 
-loop-holds : tie.Need-loop-init invariant-loop decreases-loop
+loop-holds : tie.Need-loop-i-init invariant-loop-i decreases-loop-i
 loop-holds c = (search rules, done_none _)
 
-mul-lesser : tie.Need-overflow-mul-lesser invariant-loop decreases-loop
+mul-lesser : tie.Need-offset_bounds-lots-i invariant-loop-i decreases-loop-i
 mul-lesser c = search rules
 
-shared-slice-read-lesser : tie.Need-shared-slice-read-lesser invariant-loop decreases-loop
+shared-slice-read-lesser : tie.Need-bounds-lots-i invariant-loop-i decreases-loop-i
 shared-slice-read-lesser c = search rules
 
-lots-before-requires : tie.Need-lots-before-requires invariant-loop decreases-loop
+lots-before-requires : tie.Need-lots_before-requires invariant-loop-i decreases-loop-i
 lots-before-requires c κs = search rules
 
-left-requires : tie.Need-left-requires invariant-loop decreases-loop
+left-requires : tie.Need-left-requires invariant-loop-i decreases-loop-i
 left-requires c κs = search rules
 
-lesser-requires : tie.Need-lesser-requires invariant-loop decreases-loop
+lesser-requires : tie.Need-lesser-requires invariant-loop-i decreases-loop-i
 lesser-requires c κs = search rules
 
-mul-cuts : tie.Need-overflow-mul-cuts invariant-loop decreases-loop
+mul-cuts : tie.Need-offset_bounds-cuts-i invariant-loop-i decreases-loop-i
 mul-cuts c = search rules
 
-slice-write-cuts : tie.Need-slice-write-cuts invariant-loop decreases-loop
+slice-write-cuts : tie.Need-bounds-cuts-i invariant-loop-i decreases-loop-i
 slice-write-cuts c = search rules
 
-add-i : tie.Need-overflow-add-i invariant-loop decreases-loop
+add-i : tie.Need-overflow_add-i invariant-loop-i decreases-loop-i
 add-i c = search rules
 
-loop-less : tie.Need-loop-smaller invariant-loop decreases-loop
+loop-less : tie.Need-loop-i-smaller invariant-loop-i decreases-loop-i
 loop-less c = search rules
 
-loop-again : tie.Need-loop-preserved invariant-loop decreases-loop
+loop-again : tie.Need-loop-i-preserved invariant-loop-i decreases-loop-i
 unfolding cut_at
 loop-again c =
-    let p = c.before.before.before.before.before in
-    let s = p.before.before.before.before in
+    let p = c in
+    let s = p in
     let a = s.args in
-    let n = c.before.left.ensures ∙ ap (λ n. a.over - n) c.before.before.lots-before.ensures in
-    (search rules, done_more p.loop.invariant.1 (omega (arith, s.requires.1)) (c.lesser.ensures ∙ ap (min (at a.lots.now p.loop.i)) n))
+    let n = c.left.ensures ∙ ap (λ n. a.over - n) c.lots_before.ensures in
+    (search rules, done_more p.loop-i.invariant.1 (omega (arith, s.requires.1)) (c.lesser.ensures ∙ ap (min (at a.lots.now p.loop-i.i)) n))
 
-same_length : tie.Need-same-length invariant-loop decreases-loop
+same_length : tie.Need-shape_of-cuts invariant-loop-i decreases-loop-i
 same_length c = search rules
 
-returns : tie.Need-returns invariant-loop decreases-loop
+returns : tie.Need-returns invariant-loop-i decreases-loop-i
 returns c =
-    let p = c.before in
-    let e : p.loop.i ≡ length p.before.before.before.before.args.lots.now = omega arith in
-    done_all p.loop.invariant.1 e
+    let p = c in
+    let e : p.loop-i.i ≡ length p.args.lots.now = omega arith in
+    done_all p.loop-i.invariant.1 e
 
-pub put-cuts-spec : {M : Type 1} → statement M
-put-cuts-spec =
+pub put_cuts_spec : {M : Type 1} → statement M
+put_cuts_spec =
     tie.close
     (tie.spec
-    invariant-loop
-    decreases-loop
+    invariant-loop-i
+    decreases-loop-i
     loop-holds
     mul-lesser
     shared-slice-read-lesser

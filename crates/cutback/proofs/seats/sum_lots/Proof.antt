@@ -8,51 +8,51 @@ use Rattle.cutback.proofs.Lots.{Added, added_none, added_bad, added_more, added_
 use Rattle.cutback.proofs.seats.sum_lots.Statement.{statement}
 use Rattle.cutback.proofs.seats.sum_lots.Tie as tie
 
-abbrev invariant-loop : tie.invariant-loop
-invariant-loop lots sum₀ i₀ sum i = Added lots i sum
+abbrev invariant-loop-i : tie.invariant-loop-i
+invariant-loop-i lots sum₀ i₀ sum i = Added lots i sum
 
-abbrev decreases-loop : tie.decreases-loop
-decreases-loop lots sum₀ i₀ sum i = length lots - i
+abbrev decreases-loop-i : tie.decreases-loop-i
+decreases-loop-i lots sum₀ i₀ sum i = length lots - i
 
-loop-holds : tie.Need-loop-init invariant-loop decreases-loop
+loop-holds : tie.Need-loop-i-init invariant-loop-i decreases-loop-i
 loop-holds c = added_none _
 
-mul-if1 : tie.Need-overflow-mul-if1 invariant-loop decreases-loop
+mul-if1 : tie.Need-offset_bounds-lots-i invariant-loop-i decreases-loop-i
 mul-if1 c = search rules
 
-shared-slice-read-if1 : tie.Need-shared-slice-read-if1 invariant-loop decreases-loop
+shared-slice-read-if1 : tie.Need-bounds-lots-i invariant-loop-i decreases-loop-i
 shared-slice-read-if1 c = search rules
 
-returns : tie.Need-returns invariant-loop decreases-loop
-returns c = let p = c.before.before.before in added_bad p.before.args.lots.now p.loop.i p.loop.sum p.loop.invariant (omega arith) c.if1.true
+returns : tie.Need-returns-then-lots-i-gt-MOST_LOTS invariant-loop-i decreases-loop-i
+returns c = let p = c in added_bad p.args.lots.now p.loop-i.i p.loop-i.sum p.loop-i.invariant (omega arith) c.if-lots-i-gt-MOST_LOTS.true
 
-mul-sum : tie.Need-overflow-mul-sum invariant-loop decreases-loop
+mul-sum : tie.Need-offset_bounds-lots-i-in-loop-i invariant-loop-i decreases-loop-i
 mul-sum c = search rules
 
-shared-slice-read-sum : tie.Need-shared-slice-read-sum invariant-loop decreases-loop
+shared-slice-read-sum : tie.Need-bounds-lots-i-in-loop-i invariant-loop-i decreases-loop-i
 shared-slice-read-sum c = search rules
 
-add-sum : tie.Need-overflow-add-sum invariant-loop decreases-loop
+add-sum : tie.Need-overflow_add-sum invariant-loop-i decreases-loop-i
 add-sum c = search rules
 
-add-i : tie.Need-overflow-add-i invariant-loop decreases-loop
+add-i : tie.Need-overflow_add-i invariant-loop-i decreases-loop-i
 add-i c = search rules
 
-loop-less : tie.Need-loop-smaller invariant-loop decreases-loop
+loop-less : tie.Need-loop-i-smaller invariant-loop-i decreases-loop-i
 loop-less c = search rules
 
-loop-again : tie.Need-loop-preserved invariant-loop decreases-loop
-loop-again c = let p = c.before.before.before.before in added_more p.before.args.lots.now p.loop.i p.loop.sum p.loop.invariant (omega arith) (omega arith)
+loop-again : tie.Need-loop-i-preserved invariant-loop-i decreases-loop-i
+loop-again c = let p = c in added_more p.args.lots.now p.loop-i.i p.loop-i.sum p.loop-i.invariant (omega arith) (omega arith)
 
-returns-2 : tie.Need-returns-2 invariant-loop decreases-loop
-returns-2 c = let p = c.before in added_all p.before.args.lots.now p.loop.i p.loop.sum p.loop.invariant c.loop-test.false
+returns-2 : tie.Need-returns invariant-loop-i decreases-loop-i
+returns-2 c = let p = c in added_all p.args.lots.now p.loop-i.i p.loop-i.sum p.loop-i.invariant c.loop-i-test.false
 
-pub sum-lots-spec : {M : Type 1} → statement M
-sum-lots-spec =
+pub sum_lots_spec : {M : Type 1} → statement M
+sum_lots_spec =
     tie.close
     (tie.spec
-    invariant-loop
-    decreases-loop
+    invariant-loop-i
+    decreases-loop-i
     loop-holds
     mul-if1
     shared-slice-read-if1

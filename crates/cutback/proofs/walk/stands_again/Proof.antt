@@ -12,71 +12,71 @@ use Rattle.cutback.proofs.Codes.{again_here, again_past}
 use Rattle.cutback.proofs.walk.stands_again.Statement.{statement}
 use Rattle.cutback.proofs.walk.stands_again.Tie as tie
 
-abbrev invariant-loop : tie.invariant-loop
-invariant-loop text sizes lined from end at i here₀ k₀ here k =
+abbrev invariant-loop-spot : tie.invariant-loop-spot
+invariant-loop-spot text sizes lined from end at i here₀ k₀ here k =
     IsInside sizes text here k
     × (again (part text from end) (codes_from lined (drop i sizes) (drop at text)) ≡ again (part text from end) (codes_from lined (drop k sizes) (drop here text)))
 
-abbrev decreases-loop : tie.decreases-loop
-decreases-loop text sizes lined from end at i here₀ k₀ here k = (length text - here) + (length sizes - k)
+abbrev decreases-loop-spot : tie.decreases-loop-spot
+decreases-loop-spot text sizes lined from end at i here₀ k₀ here k = (length text - here) + (length sizes - k)
 
-loop-holds : tie.Need-loop-init invariant-loop decreases-loop
+loop-holds : tie.Need-loop-spot-init invariant-loop-spot decreases-loop-spot
 loop-holds c = (search rules, refl)
 
-more-requires : tie.Need-more-requires invariant-loop decreases-loop
+more-requires : tie.Need-more-requires invariant-loop-spot decreases-loop-spot
 more-requires c κs = search rules
 
-next-code-requires : tie.Need-next-code-requires invariant-loop decreases-loop
-next-code-requires c κs = (c.before.before.loop.invariant.0, sym c.before.more.ensures ∙ c.if1.true)
+next-code-requires : tie.Need-next_code-spot-requires invariant-loop-spot decreases-loop-spot
+next-code-requires c κs = (c.loop-spot.invariant.0, sym c.more.ensures ∙ c.loop-spot-test.true)
 
-sub_is : tie.Need-overflow-sub-is invariant-loop decreases-loop
+sub_is : tie.Need-slice_bounds-is-count invariant-loop-spot decreases-loop-spot
 sub_is c = search rules
 
-part-is-start : tie.Need-slice-bounds-is-start invariant-loop decreases-loop
+part-is-start : tie.Need-slice_bounds-is-start invariant-loop-spot decreases-loop-spot
 part-is-start c = search rules
 
-part-is-end : tie.Need-slice-bounds-is-end invariant-loop decreases-loop
+part-is-end : tie.Need-slice_bounds-is-end invariant-loop-spot decreases-loop-spot
 part-is-end c = search rules
 
-sub-is-2 : tie.Need-overflow-sub-is-2 invariant-loop decreases-loop
+sub-is-2 : tie.Need-slice_bounds-is-count-in-loop-spot invariant-loop-spot decreases-loop-spot
 sub-is-2 c = search rules
 
-part-is-start-2 : tie.Need-slice-bounds-is-start-2 invariant-loop decreases-loop
+part-is-start-2 : tie.Need-slice_bounds-is-start-in-loop-spot invariant-loop-spot decreases-loop-spot
 part-is-start-2 c = search rules
 
-part-is-end-2 : tie.Need-slice-bounds-is-end-2 invariant-loop decreases-loop
+part-is-end-2 : tie.Need-slice_bounds-is-end-in-loop-spot invariant-loop-spot decreases-loop-spot
 part-is-end-2 c = search rules
 
-is-requires : tie.Need-is-requires invariant-loop decreases-loop
+is-requires : tie.Need-is-requires invariant-loop-spot decreases-loop-spot
 is-requires c κs = search rules
 
-returns : tie.Need-returns invariant-loop decreases-loop
+returns : tie.Need-returns-then-is invariant-loop-spot decreases-loop-spot
 returns c =
-    let n = c.before.before.before.before in
-    let p = n.before.before.before in
-    sym (p.loop.invariant.1 ∙ again_here _ _ _ _ n.next-code.ensures.codes (sym c.before.is.ensures ∙ c.if2.true))
+    let n = c in
+    let p = n in
+    sym (p.loop-spot.invariant.1 ∙ again_here _ _ _ _ n.next_code-spot.ensures.codes (sym c.is.ensures ∙ c.if-is.true))
 
-loop-less : tie.Need-loop-smaller invariant-loop decreases-loop
+loop-less : tie.Need-loop-spot-smaller invariant-loop-spot decreases-loop-spot
 loop-less c = search rules
 
-loop-again : tie.Need-loop-preserved invariant-loop decreases-loop
+loop-again : tie.Need-loop-spot-preserved invariant-loop-spot decreases-loop-spot
 loop-again c =
-    let n = c.before.before.before.before in
-    let p = n.before.before.before in
-    (n.next-code.ensures.rest, p.loop.invariant.1 ∙ again_past _ _ _ _ n.next-code.ensures.codes (sym c.before.is.ensures ∙ c.if2.false))
+    let n = c in
+    let p = n in
+    (n.next_code-spot.ensures.rest, p.loop-spot.invariant.1 ∙ again_past _ _ _ _ n.next_code-spot.ensures.codes (sym c.is.ensures ∙ c.if-is.false))
 
-returns-2 : tie.Need-returns-2 invariant-loop decreases-loop
+returns-2 : tie.Need-returns invariant-loop-spot decreases-loop-spot
 returns-2 c =
-    let p = c.before.before in
-    let a = p.before.before.before.args in
-    sym (p.loop.invariant.1 ∙ ap (again (part a.text.now a.from a.end)) (no_more a.sizes.now a.text.now p.loop.here p.loop.k a.lined (sym c.before.more.ensures ∙ c.if1.false)))
+    let p = c in
+    let a = p.args in
+    sym (p.loop-spot.invariant.1 ∙ ap (again (part a.text.now a.from a.end)) (no_more a.sizes.now a.text.now p.loop-spot.here p.loop-spot.k a.lined (sym c.more.ensures ∙ c.loop-spot-test.false)))
 
-pub stands-again-spec : {M : Type 1} → statement M
-stands-again-spec =
+pub stands_again_spec : {M : Type 1} → statement M
+stands_again_spec =
     tie.close
     (tie.spec
-    invariant-loop
-    decreases-loop
+    invariant-loop-spot
+    decreases-loop-spot
     loop-holds
     more-requires
     next-code-requires
