@@ -14,86 +14,86 @@ use Rattle.days.proofs.Counts.{more_days, none_more, counts_found, counts_refuse
 use Rattle.days.proofs.count_days.Statement.{statement}
 use Rattle.days.proofs.count_days.Tie as tie
 
-abbrev invariant-loop : tie.invariant-loop
-invariant-loop s start long at₀ count₀ at count =
+abbrev invariant-loop-at : tie.invariant-loop-at
+invariant-loop-at s start long at₀ count₀ at count =
     (at ≤ length s) × (count ≤ at)
     × (count_of (days_from long 1 (lines_of (drop start s))) ≡ more_days count (count_of (days_from long (suc count) (lines_of (drop at s)))))
 
-abbrev decreases-loop : tie.decreases-loop
-decreases-loop s start long at₀ count₀ at count = length s - at
+abbrev decreases-loop-at : tie.decreases-loop-at
+decreases-loop-at s start long at₀ count₀ at count = length s - at
 
 -- a day that begins here, and where the next one does
-module _ (k : tie.After-next invariant-loop decreases-loop) where
-  abbrev loop : tie.At-loop invariant-loop decreases-loop
-  loop = k.before.before.before.before
+module _ (k : tie.In-Found invariant-loop-at decreases-loop-at) where
+  abbrev loop : tie.At-loop-at invariant-loop-at decreases-loop-at
+  loop = k.before.before.before
 
-  found : next_of loop.before.before.args.long loop.before.before.args.s.now loop.loop.at ≡ Found k.next.given.0.0 k.next.given.0.1.0
-  found = sym k.before.before.next_day.ensures ∙ k.next.given.1
+  found : next_of loop.args.long loop.args.s.now loop.loop-at.at ≡ Found k.in-Found.day k.in-Found.next
+  found = sym k.next_day.ensures ∙ k.in-Found.is
 
-  forward : (loop.loop.at < k.next.given.0.1.0) × (k.next.given.0.1.0 ≤ length loop.before.before.args.s.now)
-  forward = next_bounds loop.before.before.args.long loop.before.before.args.s.now loop.loop.at _ _ found
+  forward : (loop.loop-at.at < k.in-Found.next) × (k.in-Found.next ≤ length loop.args.s.now)
+  forward = next_bounds loop.args.long loop.args.s.now loop.loop-at.at _ _ found
 
-loop-holds : tie.Need-loop-init invariant-loop decreases-loop
+loop-holds : tie.Need-loop-at-init invariant-loop-at decreases-loop-at
 loop-holds c = (search rules, search rules, none_more _)
 
-next-day-requires : tie.Need-next-day-requires invariant-loop decreases-loop
+next-day-requires : tie.Need-next_day-requires invariant-loop-at decreases-loop-at
 next-day-requires c κs = search rules
 
-enum-known-next : tie.Need-enum-known-next invariant-loop decreases-loop
+enum-known-next : tie.Need-enum_known-next invariant-loop-at decreases-loop-at
 enum-known-next c = search rules
 
-add-count : tie.Need-overflow-add-count invariant-loop decreases-loop
+add-count : tie.Need-overflow_add-count invariant-loop-at decreases-loop-at
 add-count c =
-    let l = c.before.before.before.before.before in omega arith
+    let l = c in omega arith
 
-loop-less : tie.Need-loop-smaller invariant-loop decreases-loop
+loop-less : tie.Need-loop-at-smaller invariant-loop-at decreases-loop-at
 loop-less c =
-    let k = c.before in
+    let k = c in
     omega (arith, forward k)
 
-loop-again : tie.Need-loop-preserved invariant-loop decreases-loop
+loop-again : tie.Need-loop-at-preserved invariant-loop-at decreases-loop-at
 loop-again c =
-    let k = c.before in
-    let l = k.before.before.before.before in
-    let a = l.before.before.args in
-    ((forward k).1, omega (arith, forward k), counts_found a.long a.s.now _ l.loop.at l.loop.count l.loop.invariant.2 _ _ (found k))
+    let k = c in
+    let l = k in
+    let a = l.args in
+    ((forward k).1, omega (arith, forward k), counts_found a.long a.s.now _ l.loop-at.at l.loop-at.count l.loop-at.invariant.2 _ _ (found k))
 
-enum-known-number : tie.Need-enum-known-number invariant-loop decreases-loop
+enum-known-number : tie.Need-enum_known-number invariant-loop-at decreases-loop-at
 enum-known-number c = search rules
 
-add-t11 : tie.Need-overflow-add-t11 invariant-loop decreases-loop
+add-t11 : tie.Need-overflow_add-result invariant-loop-at decreases-loop-at
 add-t11 c = search rules
 
-returns : tie.Need-returns invariant-loop decreases-loop
+returns : tie.Need-returns-in-Refused invariant-loop-at decreases-loop-at
 returns c =
-    let k = c.before in
-    let n = k.before.before in
-    let l = n.before.before in
-    let a = l.before.before.args in
-    counts_refused a.long a.s.now _ l.loop.at l.loop.count l.loop.invariant.2 _ (sym n.next_day.ensures ∙ k.number.given.1)
+    let k = c in
+    let n = k in
+    let l = n in
+    let a = l.args in
+    counts_refused a.long a.s.now _ l.loop-at.at l.loop-at.count l.loop-at.invariant.2 _ (sym n.next_day.ensures ∙ k.in-Refused.is)
 
-enum_told : tie.Need-enum-told invariant-loop decreases-loop
+enum_told : tie.Need-enum_told-1 invariant-loop-at decreases-loop-at
 enum_told c = search rules
 
-returns-2 : tie.Need-returns-2 invariant-loop decreases-loop
+returns-2 : tie.Need-returns-in-End invariant-loop-at decreases-loop-at
 returns-2 c =
-    let n = c.before.before in
-    let l = n.before.before in
-    let a = l.before.before.args in
-    counts_end a.long a.s.now _ l.loop.at l.loop.count l.loop.invariant.2 (sym n.next_day.ensures ∙ c.enum_told.given.1)
+    let n = c in
+    let l = n in
+    let a = l.args in
+    counts_end a.long a.s.now _ l.loop-at.at l.loop-at.count l.loop-at.invariant.2 (sym n.next_day.ensures ∙ c.in-End.is)
 
-returns-3 : tie.Need-returns-3 invariant-loop decreases-loop
+returns-3 : tie.Need-returns invariant-loop-at decreases-loop-at
 returns-3 c =
-    let l = c.before in
-    let a = l.before.before.args in
-    counts_all a.long a.s.now _ l.loop.at l.loop.count l.loop.invariant.2 c.loop-test.false
+    let l = c in
+    let a = l.args in
+    counts_all a.long a.s.now _ l.loop-at.at l.loop-at.count l.loop-at.invariant.2 c.loop-at-test.false
 
-pub count-days-spec : {M : Type 1} → statement M
-count-days-spec =
+pub count_days_spec : {M : Type 1} → statement M
+count_days_spec =
     tie.close
     (tie.spec
-    invariant-loop
-    decreases-loop
+    invariant-loop-at
+    decreases-loop-at
     loop-holds
     next-day-requires
     enum-known-next

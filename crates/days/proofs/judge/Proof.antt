@@ -38,44 +38,44 @@ module _ (long : Bool) (total : ℕ) (s : List ℕ) where
   no_head h e = ap (judged_as (start_of s)) (sym (few h ∙ head_other s e long))
 
 -- the first line names a metal
-headed : (c : tie.After-known-told) → head_of c.before.before.before.before.before.before.args.s.now ≡ Of c.before.metal.given.0.0 c.before.metal.given.0.1.0
-headed c = sym c.before.before.before.read_head.ensures ∙ c.before.metal.given.1
+headed : (c : tie.In-Of) → head_of c.args.s.now ≡ Of c.in-Of.metal c.in-Of.start
+headed c = sym c.read_head.ensures ∙ c.in-Of.is
 
-returns : tie.Need-returns
-returns c = let a = c.before.before.args in too_many a.long a.total a.s.now c.if1.true
+returns : tie.Need-returns-then-total-gt-MOST_FEEDS
+returns c = let a = c.args in too_many a.long a.total a.s.now c.if-total-gt-MOST_FEEDS.true
 
-read-head-requires : tie.Need-read-head-requires
+read-head-requires : tie.Need-read_head-requires
 read-head-requires c κs = search rules
 
-enum-known-metal : tie.Need-enum-known-metal
+enum-known-metal : tie.Need-enum_known-metal
 enum-known-metal c = search rules
 
-count-days-requires : tie.Need-count-days-requires
+count-days-requires : tie.Need-count_days-requires
 count-days-requires c κs = (head_of_lem _ _ _ (headed c)).inside
 
 taken-requires : tie.Need-taken-requires
 taken-requires c κs = search rules
 
-enum_told : tie.Need-enum-told
+enum_told : tie.Need-enum_told-1
 enum_told c = search rules
 
-returns-2 : tie.Need-returns-2
+returns-2 : tie.Need-returns-in-Of
 returns-2 c =
-    let n = c.before in
-    let k = n.before in
-    let e = k.before.before.before.before in
-    let a = e.before.before.args in
-    c.taken.ensures ∙ ap (taken_as _ _) n.count-days.ensures ∙ counted a.long a.total a.s.now e.if1.false _ _ (headed k)
+    let n = c in
+    let k = n in
+    let e = k in
+    let a = e.args in
+    c.taken.ensures ∙ ap (taken_as _ _) n.count_days.ensures ∙ counted a.long a.total a.s.now e.if-total-gt-MOST_FEEDS.false _ _ (headed c.before.before)
 
-returns-3 : tie.Need-returns-3
+returns-3 : tie.Need-returns-in-Other
 returns-3 c =
-    let h = c.before.before in
-    let e = h.before in
-    let a = e.before.before.args in
-    no_head a.long a.total a.s.now e.if1.false (sym h.read_head.ensures ∙ c.enum_told.given.1)
+    let h = c in
+    let e = h in
+    let a = e.args in
+    no_head a.long a.total a.s.now e.if-total-gt-MOST_FEEDS.false (sym h.read_head.ensures ∙ c.in-Other.is)
 
-pub judge-spec : {M : Type 1} → statement M
-judge-spec =
+pub judge_spec : {M : Type 1} → statement M
+judge_spec =
     tie.close
     (tie.spec
     returns

@@ -10,78 +10,69 @@ use Rattle.days.proofs.read_head.Statement.{statement}
 use Rattle.days.proofs.read_head.Tie as tie
 
 -- the first line feed
-feed : (c : tie.After-first-at) → c.first-at.result ≡ length (up_to_byte 10 c.before.before.args.s.now)
-feed c = c.first-at.ensures
+feed : (c : tie.After-first_at-end) → c.first_at-end.result ≡ length (up_to_byte 10 c.args.s.now)
+feed c = c.first_at-end.ensures
 
-first-at-requires : tie.Need-first-at-requires
+first-at-requires : tie.Need-first_at-end-requires
 first-at-requires c κs = search rules
 
-returns : tie.Need-returns
-returns c = head_none c.before.before.before.args.s.now _ (feed c.before) c.if1.true
+returns : tie.Need-returns-then-end-s
+returns c = head_none c.args.s.now _ (feed c.before) c.if-end-s.true
 
-slice-aggregate-is : tie.Need-slice-aggregate-is
-slice-aggregate-is c = let f = c.before.before in line_size f.before.before.args.s.now _ (feed f)
+slice-aggregate-is : tie.Need-slice_bounds-is-end
+slice-aggregate-is c = let f = c in line_size f.args.s.now _ (feed c.before)
 
-slice-aggregate-is-2 : tie.Need-slice-aggregate-is-2
-slice-aggregate-is-2 c = search rules
+slice-aggregate-is-2 : tie.Need-slice_bounds-is-end-3
+slice-aggregate-is-2 c = line_size c.args.s.now _ (feed c.before.before.before.before.before)
 
 is-requires : tie.Need-is-requires
 is-requires c κs = search rules
 
-add-t13 : tie.Need-overflow-add-t13
-add-t13 c =
-    let e = c.before.before.before.before in
-    omega (arith, inside e.before.before.before.args.s.now _ (feed e.before) e.if1.false)
-
-returns-2 : tie.Need-returns-2
+returns-2 : tie.Need-returns-then-is
 returns-2 c =
-    let i = c.before in
-    let e = i.before.before.before in
-    head_gold e.before.before.before.args.s.now _ (feed e.before) e.if1.false (sym i.is.ensures ∙ c.if2.true)
-
-slice-aggregate-is-3 : tie.Need-slice-aggregate-is-3
-slice-aggregate-is-3 c = let f = c.before.before.before.before.before.before in line_size f.before.before.args.s.now _ (feed f)
-
-slice-aggregate-is-4 : tie.Need-slice-aggregate-is-4
-slice-aggregate-is-4 c = search rules
+    let i = c in
+    let e = i in
+    head_gold e.args.s.now _ (feed c.before.before.before.before.before) e.if-end-s.false (sym i.is.ensures ∙ c.if-is.true)
 
 is-requires-2 : tie.Need-is-requires-2
 is-requires-2 c κs = search rules
 
-add-t20 : tie.Need-overflow-add-t20
+add-t20 : tie.Need-overflow_add-result-then-is-2
 add-t20 c =
-    let e = c.before.before.before.before.before.before.before.before in
-    omega (arith, inside e.before.before.before.args.s.now _ (feed e.before) e.if1.false)
+    let e = c in
+    omega (arith, inside e.args.s.now _ (feed c.before.before.before.before.before.before.before.before.before) e.if-end-s.false)
 
-returns-3 : tie.Need-returns-3
+returns-3 : tie.Need-returns-then-is-2
 returns-3 c =
-    let j = c.before in
-    let l = j.before.before.before in
-    let i = l.before in
-    let e = i.before.before.before in
-    head_silver e.before.before.before.args.s.now _ (feed e.before) e.if1.false (sym i.is.ensures ∙ l.if2.false) (sym j.is2.ensures ∙ c.if3.true)
+    let j = c in
+    let l = j in
+    let i = l in
+    let e = i in
+    head_silver e.args.s.now _ (feed c.before.before.before.before.before.before.before.before.before) e.if-end-s.false (sym i.is.ensures ∙ l.if-is.false) (sym j.is-2.ensures ∙ c.if-is-2.true)
 
-returns-4 : tie.Need-returns-4
+returns-4 : tie.Need-returns
 returns-4 c =
-    let j = c.before in
-    let l = j.before.before.before in
-    let i = l.before in
-    let e = i.before.before.before in
-    head_other e.before.before.before.args.s.now _ (feed e.before) e.if1.false (sym i.is.ensures ∙ l.if2.false) (sym j.is2.ensures ∙ c.if3.false)
+    let j = c in
+    let l = j in
+    let i = l in
+    let e = i in
+    head_other e.args.s.now _ (feed c.before.before.before.before.before.before.before.before.before) e.if-end-s.false (sym i.is.ensures ∙ l.if-is.false) (sym j.is-2.ensures ∙ c.if-is-2.false)
 
-pub read-head-spec : {M : Type 1} → statement M
-read-head-spec =
+add-t12 : tie.Need-overflow_add-result
+add-t12 c =
+    omega (arith, inside c.args.s.now _ (feed c.before.before.before.before.before) c.if-end-s.false)
+
+pub read_head_spec : {M : Type 1} → statement M
+read_head_spec =
     tie.close
     (tie.spec
     first-at-requires
     returns
     slice-aggregate-is
-    slice-aggregate-is-2
     is-requires
-    add-t13
+    add-t12
     returns-2
-    slice-aggregate-is-3
-    slice-aggregate-is-4
+    slice-aggregate-is-2
     is-requires-2
     add-t20
     returns-3

@@ -14,115 +14,115 @@ use Rattle.locks.specs.Climbing.{rungs_in, Climbed, climbed_none, climbed_next, 
 use Rattle.locks.proofs.fill.Statement.{statement}
 use Rattle.locks.proofs.fill.Tie as tie
 
-abbrev invariant-loop : tie.invariant-loop
-invariant-loop s start count steps₀ before₀ days₀ ahead₀ i₀ steps before days ahead i =
+abbrev invariant-loop-i : tie.invariant-loop-i
+invariant-loop-i s start count steps₀ before₀ days₀ ahead₀ i₀ steps before days ahead i =
     (i ≤ count) × (length steps ≡ length steps₀) × Climbed s steps₀ (rungs_in (days_from true 1 (lines_of (drop start s)))) count before days ahead i steps
 
-abbrev decreases-loop : tie.decreases-loop
-decreases-loop s start count steps₀ before₀ days₀ ahead₀ i₀ steps before days ahead i = count - i
+abbrev decreases-loop-i : tie.decreases-loop-i
+decreases-loop-i s start count steps₀ before₀ days₀ ahead₀ i₀ steps before days ahead i = count - i
 
-abbrev start : tie.At-loop invariant-loop decreases-loop → tie.Start invariant-loop decreases-loop
+abbrev start : tie.At-loop-i invariant-loop-i decreases-loop-i → tie.Start invariant-loop-i decreases-loop-i
 start l = l.before.before.before.before
 
-abbrev loop : tie.After-raise-at invariant-loop decreases-loop → tie.At-loop invariant-loop decreases-loop
-loop k = k.before.before.before.before.before.before
+abbrev loop : tie.After-raise_at invariant-loop-i decreases-loop-i → tie.At-loop-i invariant-loop-i decreases-loop-i
+loop k = k.before.before.before.before
 
 -- the days running are few
-few : (k : tie.After-raise-at invariant-loop decreases-loop) → (loop k).loop.days < 2_000
-few k = omega (arith, (loop k).loop.invariant.2.few, k.before.before.before.before.before.loop-test.true, (start (loop k)).pre.counted.few)
+few : (k : tie.After-raise_at invariant-loop-i decreases-loop-i) → (loop k).loop-i.days < 2_000
+few k = omega (arith, (loop k).loop-i.invariant.2.few, k.loop-i-test.true, (start (loop k)).requires.counted.few)
 
-inside : (c : tie.After-rung-of invariant-loop decreases-loop) → let l = loop c.before.before in
-    (l.loop.i < (start l).args.count) × ((start l).args.count ≤ length (start l).args.steps.now) × (length l.loop.steps ≡ length (start l).args.steps.now)
+inside : (c : tie.After-rung_of invariant-loop-i decreases-loop-i) → let l = loop c.before.before in
+    (l.loop-i.i < (start l).args.count) × ((start l).args.count ≤ length (start l).args.steps.now) × (length l.loop-i.steps ≡ length (start l).args.steps.now)
 inside c =
-    let k = c.before.before in
-    let l = loop k in
-    (k.before.before.before.before.before.loop-test.true, (start l).pre.room, l.loop.inv.1)
+    let k = c in
+    let l = loop c.before.before in
+    (k.loop-i-test.true, (start l).requires.room, l.loop-i.invariant.1)
 
-next-day-requires : tie.Need-next-day-requires invariant-loop decreases-loop
+next-day-requires : tie.Need-next_day-ahead-requires invariant-loop-i decreases-loop-i
 next-day-requires c κs = search rules
 
-loop-holds : tie.Need-loop-init invariant-loop decreases-loop
+loop-holds : tie.Need-loop-i-init invariant-loop-i decreases-loop-i
 loop-holds c =
-    let s = c.before.before.before in
-    (search rules, refl, climbed_none s.args.s.now s.args.steps.now s.args.start s.args.count s.requires c.next_day.result c.next_day.ensures)
+    let s = c in
+    (search rules, refl, climbed_none s.args.s.now s.args.steps.now s.args.start s.args.count s.requires c.next_day-ahead.result c.next_day-ahead.ensures)
 
-enum-known-ahead : tie.Need-enum-known-ahead invariant-loop decreases-loop
+enum-known-ahead : tie.Need-enum_known-ahead invariant-loop-i decreases-loop-i
 enum-known-ahead c = search rules
 
-next-day-requires-2 : tie.Need-next-day-requires-2 invariant-loop decreases-loop
+next-day-requires-2 : tie.Need-next_day-ahead-requires-in-Found invariant-loop-i decreases-loop-i
 next-day-requires-2 c κs = search rules
 
-raise-at-requires : tie.Need-raise-at-requires invariant-loop decreases-loop
+raise-at-requires : tie.Need-raise_at-requires invariant-loop-i decreases-loop-i
 raise-at-requires c κs = search rules
 
-step-by-requires : tie.Need-step-by-requires invariant-loop decreases-loop
+step-by-requires : tie.Need-step_by-step-requires invariant-loop-i decreases-loop-i
 step-by-requires c κs = omega (arith, few c)
 
-rung-of-requires : tie.Need-rung-of-requires invariant-loop decreases-loop
-rung-of-requires c κs = let k = c.before in omega (arith, ap running c.step_by.ensures, step_few (loop k).loop.before k.before.before.before.ahead.given.0.0.mark (loop k).loop.days k.raise-at.result, few k)
+rung-of-requires : tie.Need-rung_of-requires invariant-loop-i decreases-loop-i
+rung-of-requires c κs = let k = c in omega (arith, ap running c.step_by-step.ensures, step_few (loop c.before).loop-i.before k.in-Found.day.mark (loop c.before).loop-i.days k.raise_at.result, few c.before)
 
-mul-steps : tie.Need-overflow-mul-steps invariant-loop decreases-loop
-mul-steps c = let l = loop c.before.before in omega (arith, l.loop.inv.0, (start l).pre.counted.few)
+mul-steps : tie.Need-offset_bounds-steps-i invariant-loop-i decreases-loop-i
+mul-steps c = let l = loop c.before.before in omega (arith, l.loop-i.invariant.0, (start l).requires.counted.few)
 
-slice-write-steps : tie.Need-slice-write-steps invariant-loop decreases-loop
+slice-write-steps : tie.Need-bounds-steps-i invariant-loop-i decreases-loop-i
 slice-write-steps c = omega (arith, inside c)
 
-running-requires : tie.Need-running-requires invariant-loop decreases-loop
+running-requires : tie.Need-running-days-requires invariant-loop-i decreases-loop-i
 running-requires c κs = search rules
 
-add-i : tie.Need-overflow-add-i invariant-loop decreases-loop
+add-i : tie.Need-overflow_add-i invariant-loop-i decreases-loop-i
 add-i c = omega (arith, inside c.before)
 
-loop-less : tie.Need-loop-smaller invariant-loop decreases-loop
+loop-less : tie.Need-loop-i-smaller invariant-loop-i decreases-loop-i
 loop-less c = omega (arith, inside c.before)
 
-loop-again : tie.Need-loop-preserved invariant-loop decreases-loop
+loop-again : tie.Need-loop-i-preserved invariant-loop-i decreases-loop-i
 loop-again c =
-    let g = c.before in
-    let p = g.before in
-    let k = p.before in
-    let n = k.before in
-    let a = n.before.before in
-    let l = loop k in
-    let room = inside g in (
+    let g = c in
+    let p = g in
+    let k = p in
+    let n = k in
+    let a = n in
+    let l = loop c.before.before.before in
+    let room = inside c.before in (
       omega arith,
-      simp length-set l.loop.inv.1,
-      climbed_next l.loop.inv.2 _ _ a.ahead.given.1 _ n.next-day2.ensures _ k.raise-at.ensures _ p.step_by.ensures _ g.rung-of.ensures _ c.running.ensures (omega arith),
+      simp length-set l.loop-i.invariant.1,
+      climbed_next l.loop-i.invariant.2 _ _ a.in-Found.is _ n.next_day-ahead-in-Found.ensures _ k.raise_at.ensures _ p.step_by-step.ensures _ g.rung_of.ensures _ c.running-days.ensures (omega arith),
     )
 
-enum_told : tie.Need-enum-told invariant-loop decreases-loop
+enum_told : tie.Need-enum_told-1 invariant-loop-i decreases-loop-i
 enum_told c = search rules
 
-same_length : tie.Need-same-length invariant-loop decreases-loop
-same_length c = c.before.before.before.loop.invariant.1
+same_length : tie.Need-shape_of-steps-in-Refused invariant-loop-i decreases-loop-i
+same_length c = c.loop-i.invariant.1
 
-returns : tie.Need-returns invariant-loop decreases-loop
-returns c = absurd (not_bad c.before.before.before.loop.invariant.2 _ c.enum_told.given.1)
+returns : tie.Need-returns-in-Refused invariant-loop-i decreases-loop-i
+returns c = absurd (not_bad c.loop-i.invariant.2 _ c.in-Refused.is)
 
-enum-told-2 : tie.Need-enum-told-2 invariant-loop decreases-loop
+enum-told-2 : tie.Need-enum_told-in-End invariant-loop-i decreases-loop-i
 enum-told-2 c = search rules
 
-same-length-2 : tie.Need-same-length-2 invariant-loop decreases-loop
-same-length-2 c = c.before.before.before.loop.invariant.1
+same-length-2 : tie.Need-shape_of-steps-in-End invariant-loop-i decreases-loop-i
+same-length-2 c = c.loop-i.invariant.1
 
-returns-2 : tie.Need-returns-2 invariant-loop decreases-loop
-returns-2 c = absurd (not_ended c.before.before.before.loop.invariant.2 c.before.before.loop-test.true c.enum-told2.given.1)
+returns-2 : tie.Need-returns-in-End invariant-loop-i decreases-loop-i
+returns-2 c = absurd (not_ended c.loop-i.invariant.2 c.loop-i-test.true c.in-End.is)
 
-same-length-3 : tie.Need-same-length-3 invariant-loop decreases-loop
-same-length-3 c = c.before.loop.invariant.1
+same-length-3 : tie.Need-shape_of-steps invariant-loop-i decreases-loop-i
+same-length-3 c = c.loop-i.invariant.1
 
-returns-3 : tie.Need-returns-3 invariant-loop decreases-loop
+returns-3 : tie.Need-returns invariant-loop-i decreases-loop-i
 returns-3 c =
-    let l = c.before in
-    let a = (start l).args in
-    climbed_all l.loop.invariant.2 (omega arith) ∙ sym (written_front (rungs_in (days_from true 1 (lines_of (drop a.start a.s.now)))) a.steps.now)
+    let l = c in
+    let a = (start c.before).args in
+    climbed_all l.loop-i.invariant.2 (omega arith) ∙ sym (written_front (rungs_in (days_from true 1 (lines_of (drop a.start a.s.now)))) a.steps.now)
 
 pub fill_spec : {M : Type 1} → statement M
 fill_spec =
     tie.close
     (tie.spec
-    invariant-loop
-    decreases-loop
+    invariant-loop-i
+    decreases-loop-i
     next-day-requires
     loop-holds
     enum-known-ahead

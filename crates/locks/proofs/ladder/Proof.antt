@@ -8,21 +8,21 @@ use Rattle.locks.proofs.Answers.{all_feeds}
 use Rattle.locks.proofs.ladder.Statement.{statement}
 use Rattle.locks.proofs.ladder.Tie as tie
 
-count-feeds-requires : tie.Need-count-feeds-requires
+count-feeds-requires : tie.Need-count_feeds-requires
 count-feeds-requires c κs = search rules
 
-ladder-in-requires : tie.Need-ladder-in-requires
+ladder-in-requires : tie.Need-ladder_in-requires
 ladder-in-requires c κs = search rules
 
-same_length : tie.Need-same-length
+same_length : tie.Need-shape_of-steps
 same_length c = search rules
 
 returns : tie.Need-returns
 returns c =
-    let m = c.before.before in
-    let n = m.before.before in
-    let a = n.before.before.before.args in
+    let m = c in
+    let n = m in
+    let a = n.args in
     same_answer (sym (all_feeds a.s.now n.count_feeds.result (length a.steps.now) n.count_feeds.ensures.0)) m.ladder_in.ensures
 
-pub ladder-spec : {M : Type 1} → statement M
-ladder-spec = tie.close (tie.spec count-feeds-requires ladder-in-requires same_length returns)
+pub ladder_spec : {M : Type 1} → statement M
+ladder_spec = tie.close (tie.spec count-feeds-requires ladder-in-requires same_length returns)

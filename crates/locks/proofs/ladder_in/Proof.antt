@@ -12,41 +12,41 @@ use Rattle.locks.proofs.Answers.{countable, taken, refused}
 use Rattle.locks.proofs.ladder_in.Statement.{statement}
 use Rattle.locks.proofs.ladder_in.Tie as tie
 
-judged : (k : tie.After-start) → let a = k.before.before.before.before.before.args in
-    judged_as (start_of a.s.now) (verdict_of true a.total a.s.now) ≡ Taken k.start.given.0.0 k.start.given.0.1.0 k.start.given.0.1.1.0
-judged k = sym k.before.before.judge.ensures ∙ k.start.given.1
+judged : (k : tie.In-Accepted) → let a = k.args in
+    judged_as (start_of a.s.now) (verdict_of true a.total a.s.now) ≡ Taken k.in-Accepted.metal k.in-Accepted.start k.in-Accepted.count
+judged k = sym k.judge.ensures ∙ k.in-Accepted.is
 
 judge-requires : tie.Need-judge-requires
 judge-requires c κs = search rules
 
-enum-known-start : tie.Need-enum-known-start
+enum-known-start : tie.Need-enum_known-start
 enum-known-start c = search rules
 
 show-requires : tie.Need-show-requires
-show-requires c κs = let k = c.before.before in let a = k.before.before.before.before.before.args in countable a.total a.s.now _ _ _ k.before.before.before.before.before.requires (judged k)
+show-requires c κs = let k = c in let a = k.args in countable a.total a.s.now _ _ _ k.requires (judged c.before)
 
-enum-known-number : tie.Need-enum-known-number
+enum-known-number : tie.Need-enum_known-number
 enum-known-number c = search rules
 
-same_length : tie.Need-same-length
+same_length : tie.Need-shape_of-steps
 same_length c = search rules
 
-returns : tie.Need-returns
+returns : tie.Need-returns-in-Accepted
 returns c =
-    let h = c.before.before in
-    let k = h.before.before.before in
-    let a = k.before.before.before.before.before.args in
-    same_answer (taken a.total a.s.now _ _ _ (length a.steps.now) (judged k)) h.show.ensures
+    let h = c in
+    let k = h in
+    let a = k.args in
+    same_answer (taken a.total a.s.now _ _ _ (length a.steps.now) (judged c.before.before.before.before)) h.show.ensures
 
-returns-2 : tie.Need-returns-2
+returns-2 : tie.Need-returns-in-Refused
 returns-2 c =
-    let k = c.before in
-    let j = k.before.before in
-    let a = j.before.before.before.args in
-    refused a.total a.s.now _ _ (length a.steps.now) a.steps.now (sym j.judge.ensures ∙ k.number.given.1)
+    let k = c in
+    let j = k in
+    let a = j.args in
+    refused a.total a.s.now _ _ (length a.steps.now) a.steps.now (sym j.judge.ensures ∙ k.in-Refused.is)
 
-pub ladder-in-spec : {M : Type 1} → statement M
-ladder-in-spec =
+pub ladder_in_spec : {M : Type 1} → statement M
+ladder_in_spec =
     tie.close
     (tie.spec
     judge-requires

@@ -13,26 +13,26 @@ use Rattle.locks.proofs.Answers.{rungs_size}
 use Rattle.locks.proofs.show.Statement.{statement}
 use Rattle.locks.proofs.show.Tie as tie
 
-returns : tie.Need-returns
+returns : tie.Need-returns-then-steps-count
 returns c =
-    let s = c.before.before.before in
+    let s = c in
     let a = s.args in
-    too_small (rungs_in (days_from true 1 (lines_of (drop a.start a.s.now)))) a.steps.now a.count (sym (rungs_size a.s.now a.start a.count s.requires)) c.if1.true
+    too_small (rungs_in (days_from true 1 (lines_of (drop a.start a.s.now)))) a.steps.now a.count (sym (rungs_size a.s.now a.start a.count s.requires)) c.if-steps-count.true
 
 fill-requires : tie.Need-fill-requires
 fill-requires c κs = search rules
 
-same_length : tie.Need-same-length
+same_length : tie.Need-shape_of-steps
 same_length c = search rules
 
-returns-2 : tie.Need-returns-2
+returns-2 : tie.Need-returns
 returns-2 c =
-    let f = c.before.before in
-    let e = f.before.before in
-    let s = e.before.before.before in
+    let f = c in
+    let e = f in
+    let s = e in
     let a = s.args in
     let size = rungs_size a.s.now a.start a.count s.requires in
-    fits (rungs_in (days_from true 1 (lines_of (drop a.start a.s.now)))) a.steps.now _ a.count (omega (arith, size, e.if1.false)) f.fill.ensures (omega (arith, size))
+    fits (rungs_in (days_from true 1 (lines_of (drop a.start a.s.now)))) a.steps.now _ a.count (omega (arith, size, e.if-steps-count.false)) f.fill.ensures (omega (arith, size))
 
-pub show-spec : {M : Type 1} → statement M
-show-spec = tie.close (tie.spec returns fill-requires same_length returns-2)
+pub show_spec : {M : Type 1} → statement M
+show_spec = tie.close (tie.spec returns fill-requires same_length returns-2)

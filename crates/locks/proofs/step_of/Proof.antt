@@ -5,12 +5,12 @@ use Rattle.locks.specs.Rungs.{step_of}
 use Rattle.locks.proofs.step_of.Statement.{statement}
 use Rattle.locks.proofs.step_of.Tie as tie
 
-step-at-requires : tie.Need-step-at-requires
+step-at-requires : tie.Need-step_at-requires
 step-at-requires c κs = search rules
 
 returns : tie.Need-returns
 unfolding step_of
-returns c = c.step-at.ensures
+returns c = c.step_at.ensures
 
-pub step-of-spec : {M : Type 1} → statement M
-step-of-spec = tie.close (tie.spec step-at-requires returns)
+pub step_of_spec : {M : Type 1} → statement M
+step_of_spec = tie.close (tie.spec step-at-requires returns)

@@ -5,22 +5,22 @@ use Rattle.watch.proofs.Answers.{no_room, with_room}
 use Rattle.watch.proofs.show.Statement.{statement}
 use Rattle.watch.proofs.show.Tie as tie
 
-returns : tie.Need-returns
-returns c = let s = c.before.before.before in let a = s.args in no_room a.metal a.s.now a.start a.count s.requires a.spans.now c.if1.true
+returns : tie.Need-returns-then-spans-count
+returns c = let s = c in let a = s.args in no_room a.metal a.s.now a.start a.count s.requires a.spans.now c.if-spans-count.true
 
 fill-requires : tie.Need-fill-requires
 fill-requires c κs = search rules
 
-same_length : tie.Need-same-length
+same_length : tie.Need-shape_of-spans
 same_length c = search rules
 
-returns-2 : tie.Need-returns-2
+returns-2 : tie.Need-returns
 returns-2 c =
-    let f = c.before.before in
-    let e = f.before.before in
-    let s = e.before.before.before in
+    let f = c in
+    let e = f in
+    let s = e in
     let a = s.args in
-    with_room a.metal a.s.now a.start a.count s.requires a.spans.now e.if1.false f.fill.ensures
+    with_room a.metal a.s.now a.start a.count s.requires a.spans.now e.if-spans-count.false f.fill.ensures
 
-pub show-spec : {M : Type 1} → statement M
-show-spec = tie.close (tie.spec returns fill-requires same_length returns-2)
+pub show_spec : {M : Type 1} → statement M
+show_spec = tie.close (tie.spec returns fill-requires same_length returns-2)

@@ -14,39 +14,39 @@ use Rattle.days.proofs.line.behind.Tie as tie
 none : (v : List ℕ) (i n : ℕ) → length v ≤ i → take n (drop (length v) v) ≡ drop i v
 none v i n h = simp (drop_of_length-le v h, drop-length) (take-nil n)
 
-add-from : tie.Need-overflow-add-from
+add-from : tie.Need-overflow_add-from
 add-from c = search rules
 
-sub-result : tie.Need-overflow-sub-result
+sub-result : tie.Need-slice_bounds-result-count
 sub-result c = search rules
 
-part-result-start : tie.Need-slice-bounds-result-start
+part-result-start : tie.Need-slice_bounds-result-start
 part-result-start c = search rules
 
-part-result-end : tie.Need-slice-bounds-result-end
+part-result-end : tie.Need-slice_bounds-result-end
 part-result-end c = search rules
 
-sub-result-2 : tie.Need-overflow-sub-result-2
+sub-result-2 : tie.Need-slice_bounds-result-count-else-at-v
 sub-result-2 c = search rules
 
-part-result-start-2 : tie.Need-slice-bounds-result-start-2
+part-result-start-2 : tie.Need-slice_bounds-result-start-else-at-v
 part-result-start-2 c = search rules
 
-part-result-end-2 : tie.Need-slice-bounds-result-end-2
+part-result-end-2 : tie.Need-slice_bounds-result-end-else-at-v
 part-result-end-2 c = search rules
 
-returns : tie.Need-returns
+returns : tie.Need-returns-then-at-v
 returns c =
-    let a = c.before.before.args in
+    let a = c.args in
     take_all (length a.v.now - (a.at + 1)) (drop (a.at + 1) a.v.now) (simp length-drop (omega arith))
 
-returns-2 : tie.Need-returns-2
+returns-2 : tie.Need-returns-else-at-v
 returns-2 c =
-    let a = c.before.before.args in
+    let a = c.args in
     none a.v.now (a.at + 1) (length a.v.now - length a.v.now) (omega arith)
 
-pub behind-spec : {M : Type 1} → statement M
-behind-spec =
+pub behind_spec : {M : Type 1} → statement M
+behind_spec =
     tie.close
     (tie.spec
     add-from

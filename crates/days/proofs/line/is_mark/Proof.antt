@@ -7,19 +7,19 @@ use mathlib.Core.Path.{sym, ◌∙◌}
 use Rattle.days.proofs.line.is_mark.Statement.{statement}
 use Rattle.days.proofs.line.is_mark.Tie as tie
 
-returns : tie.Need-returns
-returns c = simp (ne_eqb (length c.before.before.args.v.now) 1 c.if1.true)
+returns : tie.Need-returns-then-v-ne1
+returns c = simp (ne_eqb (length c.args.v.now) 1 c.if-v-ne1.true)
 
-shared-slice-read-may-mark : tie.Need-shared-slice-read-may-mark
+shared-slice-read-may-mark : tie.Need-bounds-v-0
 shared-slice-read-may-mark c = search rules
 
-may-mark-requires : tie.Need-may-mark-requires
+may-mark-requires : tie.Need-may_mark-requires
 may-mark-requires c κs = search rules
 
-returns-2 : tie.Need-returns-2
+returns-2 : tie.Need-returns
 returns-2 c =
-    let b = c.before.before in
-    c.may-mark.ensures ∙ sym (simp (eq-eqb (length b.before.before.args.v.now) 1 b.if1.false))
+    let b = c in
+    c.may_mark.ensures ∙ sym (simp (eq-eqb (length b.args.v.now) 1 b.if-v-ne1.false))
 
-pub is-mark-spec : {M : Type 1} → statement M
-is-mark-spec = tie.close (tie.spec returns shared-slice-read-may-mark may-mark-requires returns-2)
+pub is_mark_spec : {M : Type 1} → statement M
+is_mark_spec = tie.close (tie.spec returns shared-slice-read-may-mark may-mark-requires returns-2)

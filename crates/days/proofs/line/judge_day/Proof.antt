@@ -1,7 +1,7 @@
 -- `days::line::judge_day` meets its contract, by its tests.
 -- Assumes nothing.
 use borrow.Author.Rules.{rules}
-use borrow.Author.Tests.{eq-eqb, ne_eqb, not_true, not_false}
+use borrow.Author.Tests.{eq-eqb, ne_eqb, not-true, not-false}
 use mathlib.Core.Path.{◌≡◌, sym, ◌∙◌}
 use Prim.Native.Nat.{ℕ}
 use mathlib.Core.Bool.{true, false}
@@ -30,32 +30,32 @@ module _ (p q x : ℕ) (limit : Limit) where
   unfolding judged_day
   good m n h k e = sym (simp (ne_eqb p 0 h, ne_eqb q 0 k, e, n))
 
-returns : tie.Need-returns
-returns c = let a = c.before.args in no_price a.price a.interest a.x a.limit c.if1.true
+returns : tie.Need-returns-then-price-eq0
+returns c = let a = c.args in no_price a.price a.interest a.x a.limit c.if-price-eq0.true
 
-returns-2 : tie.Need-returns-2
-returns-2 c = let a = c.before.before.args in no-interest a.price a.interest a.x a.limit c.before.if1.false c.if2.true
+returns-2 : tie.Need-returns-then-interest-eq0
+returns-2 c = let a = c.args in no-interest a.price a.interest a.x a.limit c.if-price-eq0.false c.if-interest-eq0.true
 
 marks-requires : tie.Need-marks-requires
 marks-requires c κs = search rules
 
-returns-3 : tie.Need-returns-3
+returns-3 : tie.Need-returns-then-not-marks
 returns-3 c =
-    let m = c.before in
-    let e = m.before in
-    let a = e.before.before.args in
-    other-mark a.price a.interest a.x a.limit e.before.if1.false e.if2.false (sym m.marks.ensures ∙ not_true _ c.if3.true)
+    let m = c in
+    let e = m in
+    let a = e.args in
+    other-mark a.price a.interest a.x a.limit e.if-price-eq0.false e.if-interest-eq0.false (sym m.marks.ensures ∙ c.if-not-marks.true)
 
-mark-of-requires : tie.Need-mark-of-requires
+mark-of-requires : tie.Need-mark_of-requires
 mark-of-requires c κs = search rules
 
-returns-4 : tie.Need-returns-4
+returns-4 : tie.Need-returns
 returns-4 c =
-    let m = c.before.before in
-    let e = m.before in
-    let a = e.before.before.args in
-    good a.price a.interest a.x a.limit c.mark_of.result c.mark_of.ensures e.before.if1.false e.if2.false (sym m.marks.ensures ∙ not_false _ c.before.if3.false)
+    let m = c in
+    let e = m in
+    let a = e.args in
+    good a.price a.interest a.x a.limit c.mark_of.result c.mark_of.ensures e.if-price-eq0.false e.if-interest-eq0.false (sym m.marks.ensures ∙ c.if-not-marks.false)
 
-pub judge-day-spec : {M : Type 1} → statement M
-judge-day-spec =
+pub judge_day_spec : {M : Type 1} → statement M
+judge_day_spec =
     tie.close (tie.spec returns returns-2 marks-requires returns-3 mark-of-requires returns-4)

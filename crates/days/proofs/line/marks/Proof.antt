@@ -4,14 +4,14 @@ use borrow.Author.Tests.{eq-eqb, ne_eqb}
 use Rattle.days.proofs.line.marks.Statement.{statement}
 use Rattle.days.proofs.line.marks.Tie as tie
 
-returns : tie.Need-returns
-returns c = simp (eq-eqb _ _ c.if1.true)
+returns : tie.Need-returns-then-x-eq45
+returns c = simp (eq-eqb _ _ c.if-x-eq45.true)
 
-returns-2 : tie.Need-returns-2
-returns-2 c = simp (ne_eqb _ _ c.before.if1.false, eq-eqb _ _ c.if2.true)
+returns-2 : tie.Need-returns-then-x-eq85
+returns-2 c = simp (ne_eqb _ _ c.if-x-eq45.false, eq-eqb _ _ c.if-x-eq85.true)
 
-returns-3 : tie.Need-returns-3
-returns-3 c = simp (ne_eqb _ _ c.before.if1.false, ne_eqb _ _ c.if2.false)
+returns-3 : tie.Need-returns
+returns-3 c = simp (ne_eqb _ _ c.if-x-eq45.false, ne_eqb _ _ c.if-x-eq85.false)
 
-pub marks-spec : {M : Type 1} → statement M
-marks-spec = tie.close (tie.spec returns returns-2 returns-3)
+pub marks_spec : {M : Type 1} → statement M
+marks_spec = tie.close (tie.spec returns returns-2 returns-3)

@@ -14,38 +14,38 @@ use Rattle.days.proofs.line.may_be_interest.Tie as tie
 
 -- as many bytes as there may be
 sized :
-    (c : tie.Else2) →
-    let s = c.before.before in
+    (c : tie.Else-size-gt-MOST_DIGITS) →
+    let s = c in
     may_be_interest s.args.v.now
     ≡ (not (is "0" (get_or s.args.v.now 0 0)) || eqb (length s.args.v.now) 1)
 sized c =
-    let v = c.before.before.args.v.now in
-    simp (le-leb 1 (length v) (omega arith), le-leb (length v) 10 c.if2.false)
+    let v = c.args.v.now in
+    simp (le-leb 1 (length v) (omega arith), le-leb (length v) 10 c.if-size-gt-MOST_DIGITS.false)
 
-returns : tie.Need-returns
-returns c = simp (lt-leb 1 (length c.before.args.v.now) (omega arith))
+returns : tie.Need-returns-then-size-eq0
+returns c = simp (lt-leb 1 (length c.args.v.now) (omega arith))
 
-returns-2 : tie.Need-returns-2
+returns-2 : tie.Need-returns-then-size-gt-MOST_DIGITS
 returns-2 c =
-    let v = c.before.before.args.v.now in
-    simp (le-leb 1 (length v) (omega arith), lt-leb (length v) 10 c.if2.true)
+    let v = c.args.v.now in
+    simp (le-leb 1 (length v) (omega arith), lt-leb (length v) 10 c.if-size-gt-MOST_DIGITS.true)
 
-shared-slice-read-if3 : tie.Need-shared-slice-read-if3
+shared-slice-read-if3 : tie.Need-bounds-v-0
 shared-slice-read-if3 c = search rules
 
-returns-3 : tie.Need-returns-3
+returns-3 : tie.Need-returns-then-size-gt1
 returns-3 c =
-    let v = c.before.before.before.before.before.args.v.now in
-    sym (sized c.before.before.before ∙ simp (eq-eqb _ _ c.before.if3.true, ne_eqb (length v) 1 (λ e. omega arith)))
+    let v = c.args.v.now in
+    sym (sized c.before.before.before ∙ simp (eq-eqb _ _ c.if-v-eq48.true, ne_eqb (length v) 1 (λ e. omega arith)))
 
-returns-4 : tie.Need-returns-4
+returns-4 : tie.Need-returns-else-size-gt1
 returns-4 c =
-    let v = c.before.before.before.before.before.args.v.now in
-    sym (sized c.before.before.before ∙ simp (eq-eqb _ _ c.before.if3.true, eq-eqb (length v) 1 (omega arith)))
+    let v = c.args.v.now in
+    sym (sized c.before.before.before ∙ simp (eq-eqb _ _ c.if-v-eq48.true, eq-eqb (length v) 1 (omega arith)))
 
-returns-5 : tie.Need-returns-5
-returns-5 c = sym (sized c.before.before ∙ simp (ne_eqb _ _ c.if3.false))
+returns-5 : tie.Need-returns-else-v-eq48
+returns-5 c = sym (sized c.before.before ∙ simp (ne_eqb _ _ c.if-v-eq48.false))
 
-pub may-be-interest-spec : {M : Type 1} → statement M
-may-be-interest-spec =
+pub may_be_interest_spec : {M : Type 1} → statement M
+may_be_interest_spec =
     tie.close (tie.spec returns returns-2 shared-slice-read-if3 returns-3 returns-4 returns-5)

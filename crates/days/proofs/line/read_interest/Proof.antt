@@ -1,25 +1,25 @@
 -- `days::line::read_interest` meets its contract: bytes that may be open interest are, where they are digits.
 -- Assumes nothing.
 use borrow.Author.Rules.{rules}
-use borrow.Author.Tests.{not_true, not_false}
+use borrow.Author.Tests.{not-true, not-false}
 use mathlib.Core.Path.{sym, ◌∙◌}
 use Rattle.days.proofs.Parsing.{interest_none, interest_some, interest_short}
 use Rattle.days.proofs.line.read_interest.Statement.{statement}
 use Rattle.days.proofs.line.read_interest.Tie as tie
 
-may-be-interest-requires : tie.Need-may-be-interest-requires
+may-be-interest-requires : tie.Need-may_be_interest-requires
 may-be-interest-requires c κs = search rules
 
-returns : tie.Need-returns
-returns c = let m = c.before in interest_none m.before.before.args.v.now (sym m.may-be-interest.ensures ∙ not_true _ c.if1.true)
+returns : tie.Need-returns-then-not-may_be_interest
+returns c = let m = c in interest_none m.args.v.now (sym m.may_be_interest.ensures ∙ c.if-not-may_be_interest.true)
 
-read-number-requires : tie.Need-read-number-requires
-read-number-requires c κs = let m = c.before in interest_short m.before.before.args.v.now (sym m.may-be-interest.ensures ∙ not_false _ c.if1.false)
+read-number-requires : tie.Need-read_number-requires
+read-number-requires c κs = let m = c in interest_short m.args.v.now (sym m.may_be_interest.ensures ∙ c.if-not-may_be_interest.false)
 
-returns-2 : tie.Need-returns-2
+returns-2 : tie.Need-returns
 returns-2 c =
-    let m = c.before.before in
-    c.read_number.ensures ∙ interest_some m.before.before.args.v.now (sym m.may-be-interest.ensures ∙ not_false _ c.before.if1.false)
+    let m = c in
+    c.read_number.ensures ∙ interest_some m.args.v.now (sym m.may_be_interest.ensures ∙ c.if-not-may_be_interest.false)
 
-pub read-interest-spec : {M : Type 1} → statement M
-read-interest-spec = tie.close (tie.spec may-be-interest-requires returns read-number-requires returns-2)
+pub read_interest_spec : {M : Type 1} → statement M
+read_interest_spec = tie.close (tie.spec may-be-interest-requires returns read-number-requires returns-2)

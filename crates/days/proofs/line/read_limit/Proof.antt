@@ -11,60 +11,56 @@ use Rattle.days.proofs.Parsing.{figure_by, limit_missing, limit_by}
 use Rattle.days.proofs.line.read_limit.Statement.{statement}
 use Rattle.days.proofs.line.read_limit.Tie as tie
 
-by : (c : tie.After-read-figure) (f : Figure) → c.read_figure.result ≡ f → let a = c.before.before.before.before.before.args in
+by : (c : tie.After-read_figure) (f : Figure) → c.read_figure.result ≡ f → let a = c.args in
     part f (λ n. judged_day a.price a.interest a.x (Known (rate n))) ≡ limit_of a.price a.interest a.x a.v.now
 by c f told =
-    let e = c.before in
-    let i = e.before in
-    let a = i.before.before.before.args in
-    limit_by a.v.now f a.price a.interest a.x (sym i.is.ensures ∙ e.if1.false) (figure_by rate_form c.read_figure.ensures refl told)
-
-slice-aggregate-is : tie.Need-slice-aggregate-is
-slice-aggregate-is c = search rules
+    let e = c in
+    let i = e in
+    let a = i.args in
+    limit_by a.v.now f a.price a.interest a.x (sym i.is.ensures ∙ e.if-is.false) (figure_by rate_form c.read_figure.ensures refl told)
 
 is-requires : tie.Need-is-requires
 is-requires c κs = search rules
 
-judge-day-requires : tie.Need-judge-day-requires
+judge-day-requires : tie.Need-judge_day-requires
 judge-day-requires c κs = search rules
 
-returns : tie.Need-returns
+returns : tie.Need-returns-then-is
 returns c =
-    let i = c.before.before in
-    let a = i.before.before.before.args in
-    c.judge-day.ensures ∙ limit_missing a.v.now a.price a.interest a.x (sym i.is.ensures ∙ c.before.if1.true)
+    let i = c in
+    let a = i.args in
+    c.judge_day.ensures ∙ limit_missing a.v.now a.price a.interest a.x (sym i.is.ensures ∙ c.if-is.true)
 
-read-figure-requires : tie.Need-read-figure-requires
+read-figure-requires : tie.Need-read_figure-requires
 read-figure-requires c κs = search rules
 
-enum-known-n : tie.Need-enum-known-n
+enum-known-n : tie.Need-enum_known-n
 enum-known-n c = search rules
 
-judge-day-requires-2 : tie.Need-judge-day-requires-2
+judge-day-requires-2 : tie.Need-judge_day-requires-in-Value
 judge-day-requires-2 c κs = search rules
 
-enum_told : tie.Need-enum-told
+enum_told : tie.Need-enum_told-1
 enum_told c = search rules
 
-enum-told-2 : tie.Need-enum-told-2
+enum-told-2 : tie.Need-enum_told-in-Malformed
 enum-told-2 c = search rules
 
-returns-2 : tie.Need-returns-2
+returns-2 : tie.Need-returns-in-Value
 returns-2 c =
-    let k = c.before.before in
-    c.judge-day2.ensures ∙ by k.before.before (Value _) k.n.given.1
+    let k = c in
+    c.judge_day-in-Value.ensures ∙ by c.before.before (Value _) k.in-Value.is
 
-returns-3 : tie.Need-returns-3
-returns-3 c = by c.before.before Comma c.enum_told.given.1
+returns-3 : tie.Need-returns-in-Comma
+returns-3 c = by c.before Comma c.in-Comma.is
 
-returns-4 : tie.Need-returns-4
-returns-4 c = by c.before.before Malformed c.enum-told2.given.1
+returns-4 : tie.Need-returns-in-Malformed
+returns-4 c = by c.before Malformed c.in-Malformed.is
 
-pub read-limit-spec : {M : Type 1} → statement M
-read-limit-spec =
+pub read_limit_spec : {M : Type 1} → statement M
+read_limit_spec =
     tie.close
     (tie.spec
-    slice-aggregate-is
     is-requires
     judge-day-requires
     returns

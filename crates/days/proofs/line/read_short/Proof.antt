@@ -10,38 +10,38 @@ use Rattle.days.proofs.Parsing.{interest_by, short_by}
 use Rattle.days.proofs.line.read_short.Statement.{statement}
 use Rattle.days.proofs.line.read_short.Tie as tie
 
-by : (c : tie.After-read-interest) (f : Figure) → c.read-interest.result ≡ f → let a = c.before.before.args in
+by : (c : tie.After-read_interest) (f : Figure) → c.read_interest.result ≡ f → let a = c.args in
     part f (λ q. judged_day a.price q 45 Missing) ≡ short_of a.price a.v.now
-by c f told = let a = c.before.before.args in short_by a.v.now f a.price (interest_by c.read-interest.ensures refl told)
+by c f told = let a = c.args in short_by a.v.now f a.price (interest_by c.read_interest.ensures refl told)
 
-read-interest-requires : tie.Need-read-interest-requires
+read-interest-requires : tie.Need-read_interest-requires
 read-interest-requires c κs = search rules
 
-enum-known-interest : tie.Need-enum-known-interest
+enum-known-interest : tie.Need-enum_known-interest
 enum-known-interest c = search rules
 
-judge-day-requires : tie.Need-judge-day-requires
+judge-day-requires : tie.Need-judge_day-requires
 judge-day-requires c κs = search rules
 
-enum_told : tie.Need-enum-told
+enum_told : tie.Need-enum_told-1
 enum_told c = search rules
 
-enum-told-2 : tie.Need-enum-told-2
+enum-told-2 : tie.Need-enum_told-in-Malformed
 enum-told-2 c = search rules
 
-returns : tie.Need-returns
+returns : tie.Need-returns-in-Value
 returns c =
-    let k = c.before.before in
-    c.judge-day.ensures ∙ by k.before.before (Value _) k.interest.given.1
+    let k = c in
+    c.judge_day.ensures ∙ by c.before.before (Value _) k.in-Value.is
 
-returns-2 : tie.Need-returns-2
-returns-2 c = by c.before.before Comma c.enum_told.given.1
+returns-2 : tie.Need-returns-in-Comma
+returns-2 c = by c.before Comma c.in-Comma.is
 
-returns-3 : tie.Need-returns-3
-returns-3 c = by c.before.before Malformed c.enum-told2.given.1
+returns-3 : tie.Need-returns-in-Malformed
+returns-3 c = by c.before Malformed c.in-Malformed.is
 
-pub read-short-spec : {M : Type 1} → statement M
-read-short-spec =
+pub read_short_spec : {M : Type 1} → statement M
+read_short_spec =
     tie.close
     (tie.spec
     read-interest-requires

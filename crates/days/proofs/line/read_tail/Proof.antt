@@ -5,7 +5,7 @@ use mathlib.Core.Path.{◌≡◌, sym, ap, ◌∙◌}
 use native.Mathlib.Omega.{arith}
 use mathlib.Core.Bool.{Bool}
 use lib.ListN.{length-take}
-use borrow.Author.Tests.{not_true, not_false}
+use borrow.Author.Tests.{not-true, not-false}
 use Rattle.days.specs.Day.{is_mark, limit_of}
 use Rattle.rules.specs.Figures.{up_to}
 use Rattle.days.specs.Parts.{cut_most, cut_front, cut_behind}
@@ -14,54 +14,54 @@ use Rattle.days.proofs.line.read_tail.Statement.{statement}
 use Rattle.days.proofs.line.read_tail.Tie as tie
 
 -- what was asked of the bytes before the first blank
-marked : (c : tie.After-is-mark) (b : Bool) → c.is-mark.result ≡ b → is_mark (up_to " " c.before.before.before.before.args.v.now) ≡ b
+marked : (c : tie.After-is_mark) (b : Bool) → c.is_mark.result ≡ b → is_mark (up_to " " c.args.v.now) ≡ b
 marked c b told =
-    let f = c.before.before in
-    sym (ap is_mark (cut_front " " f.before.before.args.v.now f.first-at.result f.first-at.ensures)) ∙ sym c.is-mark.ensures ∙ told
+    let f = c in
+    sym (ap is_mark (cut_front " " f.args.v.now f.first_at-end.result f.first_at-end.ensures)) ∙ sym c.is_mark.ensures ∙ told
 
-first-at-requires : tie.Need-first-at-requires
+first-at-requires : tie.Need-first_at-end-requires
 first-at-requires c κs = search rules
 
-slice-aggregate-is-mark : tie.Need-slice-aggregate-is-mark
+slice-aggregate-is-mark : tie.Need-slice_bounds-is_mark-end
 slice-aggregate-is-mark c =
-    let f = c.before in
-    let v = f.before.before.args.v.now in
-    omega (arith, length-take f.first-at.result v, cut_most " " v f.first-at.result f.first-at.ensures)
+    let f = c in
+    let v = f.args.v.now in
+    omega (arith, length-take f.first_at-end.result v, cut_most " " v f.first_at-end.result f.first_at-end.ensures)
 
-is-mark-requires : tie.Need-is-mark-requires
+is-mark-requires : tie.Need-is_mark-requires
 is-mark-requires c κs = search rules
 
-returns : tie.Need-returns
+returns : tie.Need-returns-then-not-is_mark
 returns c =
-    let a = c.before.before.before.before.before.args in
-    tail_unmarked a.v.now a.price a.interest (marked c.before _ (not_true _ c.if1.true))
+    let a = c.args in
+    tail_unmarked a.v.now a.price a.interest (marked c.before _ (c.if-not-is_mark.true))
 
 behind-requires : tie.Need-behind-requires
 behind-requires c κs = search rules
 
-shared-slice-read-read-limit : tie.Need-shared-slice-read-read-limit
+shared-slice-read-read-limit : tie.Need-bounds-v-0
 shared-slice-read-read-limit c =
-    let e = c.before.before in
-    let m = e.before in
-    let f = m.before.before in
-    let there = mark_there f.before.before.args.v.now f.first-at.result (sym m.is-mark.ensures ∙ not_false _ e.if1.false) in
+    let e = c in
+    let m = e in
+    let f = m in
+    let there = mark_there f.args.v.now f.first_at-end.result (sym m.is_mark.ensures ∙ e.if-not-is_mark.false) in
     search rules
 
-read-limit-requires : tie.Need-read-limit-requires
+read-limit-requires : tie.Need-read_limit-requires
 read-limit-requires c κs = search rules
 
-returns-2 : tie.Need-returns-2
+returns-2 : tie.Need-returns
 returns-2 c =
-    let b = c.before.before in
-    let e = b.before in
-    let f = e.before.before.before in
-    let a = f.before.before.args in
-    c.read-limit.ensures
-    ∙ ap (limit_of a.price a.interest _) (b.behind.ensures ∙ cut_behind " " a.v.now f.first-at.result f.first-at.ensures)
-    ∙ tail_marked a.v.now a.price a.interest (marked e.before _ (not_false _ e.if1.false))
+    let b = c in
+    let e = b in
+    let f = e in
+    let a = f.args in
+    c.read_limit.ensures
+    ∙ ap (limit_of a.price a.interest _) (b.behind.ensures ∙ cut_behind " " a.v.now f.first_at-end.result f.first_at-end.ensures)
+    ∙ tail_marked a.v.now a.price a.interest (marked c.before.before.before.before _ (e.if-not-is_mark.false))
 
-pub read-tail-spec : {M : Type 1} → statement M
-read-tail-spec =
+pub read_tail_spec : {M : Type 1} → statement M
+read_tail_spec =
     tie.close
     (tie.spec
     first-at-requires

@@ -11,43 +11,43 @@ use Rattle.days.proofs.Words.{drop_step}
 use Rattle.days.proofs.part.first_at.Statement.{statement}
 use Rattle.days.proofs.part.first_at.Tie as tie
 
-abbrev invariant-loop : tie.invariant-loop
-invariant-loop v byte i₀ i = (i ≤ length v) × (length (up_to_byte byte v) ≡ i + length (up_to_byte byte (drop i v)))
+abbrev invariant-loop-i : tie.invariant-loop-i
+invariant-loop-i v byte i₀ i = (i ≤ length v) × (length (up_to_byte byte v) ≡ i + length (up_to_byte byte (drop i v)))
 
-abbrev decreases-loop : tie.decreases-loop
-decreases-loop v byte i₀ i = length v - i
+abbrev decreases-loop-i : tie.decreases-loop-i
+decreases-loop-i v byte i₀ i = length v - i
 
-loop-holds : tie.Need-loop-init invariant-loop decreases-loop
+loop-holds : tie.Need-loop-i-init invariant-loop-i decreases-loop-i
 loop-holds c = (search rules, omega arith)
 
-shared-slice-read-if1 : tie.Need-shared-slice-read-if1 invariant-loop decreases-loop
+shared-slice-read-if1 : tie.Need-bounds-v-i invariant-loop-i decreases-loop-i
 shared-slice-read-if1 c = search rules
 
-returns : tie.Need-returns invariant-loop decreases-loop
+returns : tie.Need-returns-then-v-i invariant-loop-i decreases-loop-i
 returns c =
-    let p = c.before.before.before in
-    simp (p.loop.invariant.1, drop_step p.before.args.v.now _ c.before.before.loop-test.true, eq-eqb _ _ c.if1.true) (omega arith)
+    let p = c in
+    simp (p.loop-i.invariant.1, drop_step p.args.v.now _ c.loop-i-test.true, eq-eqb _ _ c.if-v-i.true) (omega arith)
 
-add-i : tie.Need-overflow-add-i invariant-loop decreases-loop
+add-i : tie.Need-overflow_add-i invariant-loop-i decreases-loop-i
 add-i c = search rules
 
-loop-less : tie.Need-loop-smaller invariant-loop decreases-loop
+loop-less : tie.Need-loop-i-smaller invariant-loop-i decreases-loop-i
 loop-less c = search rules
 
-loop-again : tie.Need-loop-preserved invariant-loop decreases-loop
+loop-again : tie.Need-loop-i-preserved invariant-loop-i decreases-loop-i
 loop-again c =
-    let p = c.before.before.before in
-    (search rules, simp (p.loop.invariant.1, drop_step p.before.args.v.now _ c.before.before.loop-test.true, ne_eqb _ _ c.if1.false) (omega arith))
+    let p = c in
+    (search rules, simp (p.loop-i.invariant.1, drop_step p.args.v.now _ c.loop-i-test.true, ne_eqb _ _ c.if-v-i.false) (omega arith))
 
-returns-2 : tie.Need-returns-2 invariant-loop decreases-loop
-returns-2 c = simp (c.before.loop.invariant.1, drop_of_length-le c.before.before.args.v.now c.loop-test.false) (omega arith)
+returns-2 : tie.Need-returns invariant-loop-i decreases-loop-i
+returns-2 c = simp (c.loop-i.invariant.1, drop_of_length-le c.args.v.now c.loop-i-test.false) (omega arith)
 
-pub first-at-spec : {M : Type 1} → statement M
-first-at-spec =
+pub first_at_spec : {M : Type 1} → statement M
+first_at_spec =
     tie.close
     (tie.spec
-    invariant-loop
-    decreases-loop
+    invariant-loop-i
+    decreases-loop-i
     loop-holds
     shared-slice-read-if1
     returns

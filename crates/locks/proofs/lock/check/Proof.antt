@@ -5,41 +5,41 @@ use mathlib.Core.Path.{sym, ◌∙◌}
 use Rattle.locks.proofs.lock.check.Statement.{statement}
 use Rattle.locks.proofs.lock.check.Tie as tie
 
-enum_told : tie.Need-enum-told
+enum_told : tie.Need-enum_told-1
 enum_told c = search rules
 
-enum-known-limit : tie.Need-enum-known-limit
+enum-known-limit : tie.Need-enum_known-limit
 enum-known-limit c = search rules
 
-enum-told-2 : tie.Need-enum-told-2
+enum-told-2 : tie.Need-enum_told-in-Missing-next
 enum-told-2 c = search rules
 
-enum-known-next : tie.Need-enum-known-next
+enum-known-next : tie.Need-enum_known-next
 enum-known-next c = search rules
 
 raised-requires : tie.Need-raised-requires
 raised-requires c κs = search rules
 
-returns : tie.Need-returns
+returns : tie.Need-returns-in-Missing
 returns c = search rules
 
-returns-2 : tie.Need-returns-2
+returns-2 : tie.Need-returns-in-Missing-next
 returns-2 c = search rules
 
-returns-3 : tie.Need-returns-3
+returns-3 : tie.Need-returns-then-raised
 returns-3 c =
-    let k = c.before.before.before.before.before.before in
-    let n = c.before.before.before in
-    simp (k.limit.given.1, n.next.given.1, sym c.before.raised.ensures ∙ c.if1.true)
+    let k = c in
+    let n = c in
+    simp (k.in-Known.is, n.in-Known-next.is, sym c.raised.ensures ∙ c.if-raised.true)
 
-returns-4 : tie.Need-returns-4
+returns-4 : tie.Need-returns-else-raised
 returns-4 c =
-    let k = c.before.before.before.before.before.before in
-    let n = c.before.before.before in
-    simp (k.limit.given.1, n.next.given.1, sym c.before.raised.ensures ∙ c.if1.false)
+    let k = c in
+    let n = c in
+    simp (k.in-Known.is, n.in-Known-next.is, sym c.raised.ensures ∙ c.if-raised.false)
 
-pub check-spec : {M : Type 1} → statement M
-check-spec =
+pub check_spec : {M : Type 1} → statement M
+check_spec =
     tie.close
     (tie.spec
     enum_told

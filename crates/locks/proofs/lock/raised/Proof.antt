@@ -15,14 +15,14 @@ within from to h = by_test (leb to (from + 6_000))
     (λ b. simp (b, le-leb (to - from) 6_000 (omega (arith, leb-true to (from + 6_000) b))))
     (λ b. simp (b, lt-leb (to - from) 6_000 (omega (arith, leb-false to (from + 6_000) b))))
 
-returns : tie.Need-returns
-returns c = simp (lt-leb (c.before.args.from + 3_000) c.before.args.to (omega arith))
+returns : tie.Need-returns-then-to-from
+returns c = simp (lt-leb (c.args.from + 3_000) c.args.to (omega arith))
 
-returns-2 : tie.Need-returns-2
-returns-2 c = let a = c.before.before.args in simp (lt-leb (a.from + 3_000) a.to (omega arith))
+returns-2 : tie.Need-returns-then-raise-lt-LEAST_RAISE
+returns-2 c = let a = c.args in simp (lt-leb (a.from + 3_000) a.to (omega arith))
 
-returns-3 : tie.Need-returns-3
-returns-3 c = let a = c.before.before.args in simp (le-leb (a.from + 3_000) a.to (omega arith)) (within a.from a.to (omega arith))
+returns-3 : tie.Need-returns
+returns-3 c = let a = c.args in simp (le-leb (a.from + 3_000) a.to (omega arith)) (within a.from a.to (omega arith))
 
-pub raised-spec : {M : Type 1} → statement M
-raised-spec = tie.close (tie.spec returns returns-2 returns-3)
+pub raised_spec : {M : Type 1} → statement M
+raised_spec = tie.close (tie.spec returns returns-2 returns-3)

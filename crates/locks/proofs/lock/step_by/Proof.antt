@@ -5,62 +5,62 @@ use native.Mathlib.Numerals.{add-one}
 use Rattle.locks.proofs.lock.step_by.Statement.{statement}
 use Rattle.locks.proofs.lock.step_by.Tie as tie
 
-enum_told : tie.Need-enum-told
+enum_told : tie.Need-enum_told-1
 enum_told c = search rules
 
-enum-told-2 : tie.Need-enum-told-2
+enum-told-2 : tie.Need-enum_told-in-Up
 enum-told-2 c = search rules
 
-enum-told-3 : tie.Need-enum-told-3
+enum-told-3 : tie.Need-enum_told-in-Unlocked-before
 enum-told-3 c = search rules
 
-enum-told-4 : tie.Need-enum-told-4
+enum-told-4 : tie.Need-enum_told-in-Up-before
 enum-told-4 c = search rules
 
-add-t7 : tie.Need-overflow-add-t7
+add-t7 : tie.Need-overflow_add-result
 add-t7 c = search rules
 
-enum-told-5 : tie.Need-enum-told-5
+enum-told-5 : tie.Need-enum_told-in-Down-before
 enum-told-5 c = search rules
 
-enum-told-6 : tie.Need-enum-told-6
+enum-told-6 : tie.Need-enum_told-in-Down
 enum-told-6 c = search rules
 
-enum-told-7 : tie.Need-enum-told-7
+enum-told-7 : tie.Need-enum_told-in-Unlocked-before-2
 enum-told-7 c = search rules
 
-enum-told-8 : tie.Need-enum-told-8
+enum-told-8 : tie.Need-enum_told-in-Up-before-2
 enum-told-8 c = search rules
 
-enum-told-9 : tie.Need-enum-told-9
+enum-told-9 : tie.Need-enum_told-in-Down-before-2
 enum-told-9 c = search rules
 
-add-t9 : tie.Need-overflow-add-t9
+add-t9 : tie.Need-overflow_add-result-in-Down-before-2
 add-t9 c = search rules
 
-returns : tie.Need-returns
+returns : tie.Need-returns-in-Unlocked
 returns c = search rules
 
-returns-2 : tie.Need-returns-2
-returns-2 c = simp (c.before.before.enum-told2.given.1, c.enum-told3.given.1)
+returns-2 : tie.Need-returns-in-Unlocked-before
+returns-2 c = simp (c.in-Up.is, c.in-Unlocked-before.is)
 
-returns-3 : tie.Need-returns-3
-returns-3 c = simp (c.before.before.enum-told2.given.1, c.enum-told4.given.1, add-one)
+returns-3 : tie.Need-returns-in-Up-before
+returns-3 c = simp (c.in-Up.is, c.in-Up-before.is, add-one)
 
-returns-4 : tie.Need-returns-4
+returns-4 : tie.Need-returns-in-Down-before
 returns-4 c = search rules
 
-returns-5 : tie.Need-returns-5
-returns-5 c = simp (c.before.before.enum-told6.given.1, c.enum-told7.given.1)
+returns-5 : tie.Need-returns-in-Unlocked-before-2
+returns-5 c = simp (c.in-Down.is, c.in-Unlocked-before-2.is)
 
-returns-6 : tie.Need-returns-6
+returns-6 : tie.Need-returns-in-Up-before-2
 returns-6 c = search rules
 
-returns-7 : tie.Need-returns-7
-returns-7 c = simp (c.before.before.enum-told6.given.1, c.enum-told9.given.1, add-one)
+returns-7 : tie.Need-returns-in-Down-before-2
+returns-7 c = simp (c.in-Down.is, c.in-Down-before-2.is, add-one)
 
-pub step-by-spec : {M : Type 1} → statement M
-step-by-spec =
+pub step_by_spec : {M : Type 1} → statement M
+step_by_spec =
     tie.close
     (tie.spec
     enum_told

@@ -24,20 +24,20 @@ kind-small (First raise) = first_small raise
 kind-small (Same days) = omega arith
 kind-small Reverse = omega arith
 
-kind-of-requires : tie.Need-kind-of-requires
+kind-of-requires : tie.Need-kind_of-requires
 kind-of-requires c κs = search rules
 
 running-requires : tie.Need-running-requires
 running-requires c κs = search rules
 
-mul-result : tie.Need-overflow-mul-result
+mul-result : tie.Need-overflow_mul-result
 mul-result c = search rules
 
-add-result : tie.Need-overflow-add-result
-add-result c = let a = c.before.before.args in omega (arith, kind-small a.step, c.before.kind-of.ensures, c.running.ensures, c.before.before.requires)
+add-result : tie.Need-overflow_add-result
+add-result c = let a = c.args in omega (arith, kind-small a.step, c.kind_of.ensures, c.running.ensures, c.requires)
 
 returns : tie.Need-returns
 returns c = search rules
 
-pub rung-of-spec : {M : Type 1} → statement M
-rung-of-spec = tie.close (tie.spec kind-of-requires running-requires mul-result add-result returns)
+pub rung_of_spec : {M : Type 1} → statement M
+rung_of_spec = tie.close (tie.spec kind-of-requires running-requires mul-result add-result returns)

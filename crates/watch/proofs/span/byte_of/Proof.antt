@@ -16,11 +16,11 @@ few : (metal : Metal) (span : ℕ) {r : Row} → r ≡ row_at metal span → Few
 few metal span e = subst (λ (r : Row). Few r) (sym e) (row_few metal span)
 
 -- the bits of the three spans
-module _ (c : tie.After-span-bits3) where
-  abbrev second : tie.After-span-bits2
+module _ (c : tie.After-span_bits-five) where
+  abbrev second : tie.After-span_bits-four
   second = c.before.before
 
-  abbrev first : tie.After-span-bits
+  abbrev first : tie.After-span_bits-three
   first = second.before.before
 
   abbrev start : tie.Start
@@ -29,60 +29,60 @@ module _ (c : tie.After-span-bits3) where
   abbrev bits : Row → ℕ
   bits row = bits_in row start.args.prices.now start.args.interests.now start.args.count
 
-  three : first.span-bits.result ≡ bits (row_at start.args.metal 0)
-  three = first.span-bits.ensures ∙ ap bits first.before.row_of.ensures
+  three : first.span_bits-three.result ≡ bits (row_at start.args.metal 0)
+  three = first.span_bits-three.ensures ∙ ap bits first.row_of.ensures
 
-  four : second.span-bits2.result ≡ bits (row_at start.args.metal 1)
-  four = second.span-bits2.ensures ∙ ap bits second.before.row-of2.ensures
+  four : second.span_bits-four.result ≡ bits (row_at start.args.metal 1)
+  four = second.span_bits-four.ensures ∙ ap bits second.row_of-2.ensures
 
-  five : c.span-bits3.result ≡ bits (row_at start.args.metal 2)
-  five = c.span-bits3.ensures ∙ ap bits c.before.row-of3.ensures
+  five : c.span_bits-five.result ≡ bits (row_at start.args.metal 2)
+  five = c.span_bits-five.ensures ∙ ap bits c.row_of-3.ensures
 
   most : (row : Row) → bits row ≤ 9
   most row = bits_most row start.args.prices.now start.args.interests.now start.args.count
 
-  small : (first.span-bits.result ≤ 9) × (second.span-bits2.result ≤ 9) × (c.span-bits3.result ≤ 9)
+  small : (first.span_bits-three.result ≤ 9) × (second.span_bits-four.result ≤ 9) × (c.span_bits-five.result ≤ 9)
   small = (omega (arith, three, most (row_at start.args.metal 0)), omega (arith, four, most (row_at start.args.metal 1)), omega (arith, five, most (row_at start.args.metal 2)))
 
-row-of-requires : tie.Need-row-of-requires
+row-of-requires : tie.Need-row_of-requires
 row-of-requires c κs = search rules
 
-span-bits-requires : tie.Need-span-bits-requires
-span-bits-requires c κs = let s = c.before in (few s.args.metal 0 c.row_of.ensures, (s.requires.0, s.requires.1))
+span-bits-requires : tie.Need-span_bits-three-requires
+span-bits-requires c κs = let s = c in (few s.args.metal 0 c.row_of.ensures, (s.requires.0, s.requires.1))
 
-row-of-requires-2 : tie.Need-row-of-requires-2
+row-of-requires-2 : tie.Need-row_of-requires-2
 row-of-requires-2 c κs = search rules
 
-span-bits-requires-2 : tie.Need-span-bits-requires-2
-span-bits-requires-2 c κs = let s = c.before.before.before in (few s.args.metal 1 c.row-of2.ensures, (s.requires.0, s.requires.1))
+span-bits-requires-2 : tie.Need-span_bits-four-requires
+span-bits-requires-2 c κs = let s = c in (few s.args.metal 1 c.row_of-2.ensures, (s.requires.0, s.requires.1))
 
-row-of-requires-3 : tie.Need-row-of-requires-3
+row-of-requires-3 : tie.Need-row_of-requires-3
 row-of-requires-3 c κs = search rules
 
-span-bits-requires-3 : tie.Need-span-bits-requires-3
-span-bits-requires-3 c κs = let s = c.before.before.before.before.before in (few s.args.metal 2 c.row-of3.ensures, (s.requires.0, s.requires.1))
+span-bits-requires-3 : tie.Need-span_bits-five-requires
+span-bits-requires-3 c κs = let s = c in (few s.args.metal 2 c.row_of-3.ensures, (s.requires.0, s.requires.1))
 
-mul-result : tie.Need-overflow-mul-result
+mul-result : tie.Need-overflow_mul-result
 mul-result c = omega (arith, small c)
 
-add-result : tie.Need-overflow-add-result
+add-result : tie.Need-overflow_add-result
 add-result c = omega (arith, small c)
 
-mul-result-2 : tie.Need-overflow-mul-result-2
+mul-result-2 : tie.Need-overflow_mul-result-2
 mul-result-2 c = omega (arith, small c)
 
-add-result-2 : tie.Need-overflow-add-result-2
+add-result-2 : tie.Need-overflow_add-result-2
 add-result-2 c = omega (arith, small c)
 
-cast-result : tie.Need-overflow-cast-result
+cast-result : tie.Need-overflow_cast-result
 cast-result c = omega (arith, small c)
 
 returns : tie.Need-returns
 unfolding byte_in
 returns c = omega (arith, three c, four c, five c)
 
-pub byte-of-spec : {M : Type 1} → statement M
-byte-of-spec =
+pub byte_of_spec : {M : Type 1} → statement M
+byte_of_spec =
     tie.close
     (tie.spec
     row-of-requires

@@ -6,14 +6,14 @@ use native.Mathlib.Nat.{mul-le-mul}
 use Rattle.watch.proofs.span.reaches.Statement.{statement}
 use Rattle.watch.proofs.span.reaches.Tie as tie
 
-mul-result : tie.Need-overflow-mul-result
+mul-result : tie.Need-overflow_mul-result
 mul-result c = record { fits = omega (arith, mul-le-mul c.requires.0 c.requires.1.1) }
 
-mul-result-2 : tie.Need-overflow-mul-result-2
+mul-result-2 : tie.Need-overflow_mul-result-2
 mul-result-2 c = search rules
 
 returns : tie.Need-returns
 returns c = search rules
 
-pub reaches-spec : {M : Type 1} → statement M
-reaches-spec = tie.close (tie.spec mul-result mul-result-2 returns)
+pub reaches_spec : {M : Type 1} → statement M
+reaches_spec = tie.close (tie.spec mul-result mul-result-2 returns)

@@ -8,25 +8,25 @@ use Rattle.watch.proofs.Bits.{five}
 use Rattle.watch.proofs.span.shifted.Statement.{statement}
 use Rattle.watch.proofs.span.shifted.Tie as tie
 
-array-read-t6 : tie.Need-array-read-t6
+array-read-t6 : tie.Need-bounds-window-0
 array-read-t6 c = search rules
 
-array-read-t9 : tie.Need-array-read-t9
+array-read-t9 : tie.Need-bounds-window-1
 array-read-t9 c = search rules
 
-array-read-t12 : tie.Need-array-read-t12
+array-read-t12 : tie.Need-bounds-window-2
 array-read-t12 c = search rules
 
-array-read-t15 : tie.Need-array-read-t15
+array-read-t15 : tie.Need-bounds-window-3
 array-read-t15 c = search rules
 
-array-read-t18 : tie.Need-array-read-t18
+array-read-t18 : tie.Need-bounds-window-4
 array-read-t18 c = search rules
 
 returns : tie.Need-returns
-returns c = ap (λ (l : List ℕ). c.args.newest ∷ l) (five c.args.t1 (search rules))
+returns c = ap (λ (l : List ℕ). c.args.newest ∷ l) (five c.args.window (search rules))
 
-pub shifted-spec : {M : Type 1} → statement M
-shifted-spec =
+pub shifted_spec : {M : Type 1} → statement M
+shifted_spec =
     tie.close
     (tie.spec array-read-t6 array-read-t9 array-read-t12 array-read-t15 array-read-t18 returns)

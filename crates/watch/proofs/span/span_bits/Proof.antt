@@ -6,42 +6,42 @@ use Rattle.watch.proofs.Bits.{bits_none, bits_by, bit_most}
 use Rattle.watch.proofs.span.span_bits.Statement.{statement}
 use Rattle.watch.proofs.span.span_bits.Tie as tie
 
-returns : tie.Need-returns
-returns c = let a = c.before.args in bits_none a.row a.prices.now a.interests.now a.count c.if1.true
+returns : tie.Need-returns-then-count-back
+returns c = let a = c.args in bits_none a.row a.prices.now a.interests.now a.count c.if-count-back.true
 
-mul-price : tie.Need-overflow-mul-price
+mul-price : tie.Need-offset_bounds-prices-back
 mul-price c = search rules
 
-element-copy-out-price : tie.Need-element-copy-out-price
+element-copy-out-price : tie.Need-bounds-prices-back
 element-copy-out-price c = search rules
 
-mul-interest : tie.Need-overflow-mul-interest
+mul-interest : tie.Need-offset_bounds-interests-back
 mul-interest c = search rules
 
-element-copy-out-interest : tie.Need-element-copy-out-interest
+element-copy-out-interest : tie.Need-bounds-interests-back
 element-copy-out-interest c = search rules
 
-element-copy-out-apart : tie.Need-element-copy-out-apart
+element-copy-out-apart : tie.Need-bounds-prices-0
 element-copy-out-apart c = search rules
 
 apart-requires : tie.Need-apart-requires
 apart-requires c κs = search rules
 
-reaches-requires : tie.Need-reaches-requires
+reaches-requires : tie.Need-reaches-moved-requires
 reaches-requires c κs =
-    let s = c.before.before.before.before.before in
+    let s = c in
     let p = s.requires.1.0 in
     (s.requires.0.price, (omega (arith, c.apart.ensures, p 0, p s.args.row.days), p s.args.row.days))
 
-element-copy-out-above : tie.Need-element-copy-out-above
+element-copy-out-above : tie.Need-bounds-interests-0
 element-copy-out-above c = search rules
 
 above-requires : tie.Need-above-requires
 above-requires c κs = search rules
 
-reaches-requires-2 : tie.Need-reaches-requires-2
+reaches-requires-2 : tie.Need-reaches-grown-requires
 reaches-requires-2 c κs =
-    let s = c.before.before.before.before.before.before.before.before in
+    let s = c in
     let q = s.requires.1.1 in
     (s.requires.0.interest, (omega (arith, c.above.ensures, q 0), q s.args.row.days))
 
@@ -51,26 +51,26 @@ bit-requires c κs = search rules
 bit-requires-2 : tie.Need-bit-requires-2
 bit-requires-2 c κs = search rules
 
-mul-result : tie.Need-overflow-mul-result
-mul-result c = omega (arith, c.bit2.ensures, bit_most c.before.before.reaches2.result)
+mul-result : tie.Need-overflow_mul-result
+mul-result c = omega (arith, c.bit-2.ensures, bit_most c.reaches-grown.result)
 
-add-result : tie.Need-overflow-add-result
-add-result c = omega (arith, c.bit2.ensures, bit_most c.before.before.reaches2.result, c.before.bit.ensures, bit_most c.before.before.before.before.before.reaches.result)
+add-result : tie.Need-overflow_add-result
+add-result c = omega (arith, c.bit-2.ensures, bit_most c.reaches-grown.result, c.bit.ensures, bit_most c.reaches-moved.result)
 
-returns-2 : tie.Need-returns-2
+returns-2 : tie.Need-returns
 returns-2 c =
-    let b = c.before in
-    let s = b.before in
-    let u = s.before in
-    let r = u.before.before in
-    let v = r.before in
-    let e = v.before.before.before.before in
-    let a = e.before.args in
-    bits_by a.row a.prices.now a.interests.now a.count e.if1.false
-    b.bit.ensures r.reaches.ensures v.apart.ensures c.bit2.ensures s.reaches2.ensures u.above.ensures
+    let b = c in
+    let s = b in
+    let u = s in
+    let r = u in
+    let v = r in
+    let e = v in
+    let a = e.args in
+    bits_by a.row a.prices.now a.interests.now a.count e.if-count-back.false
+    b.bit.ensures r.reaches-moved.ensures v.apart.ensures c.bit-2.ensures s.reaches-grown.ensures u.above.ensures
 
-pub span-bits-spec : {M : Type 1} → statement M
-span-bits-spec =
+pub span_bits_spec : {M : Type 1} → statement M
+span_bits_spec =
     tie.close
     (tie.spec
     returns

@@ -15,25 +15,25 @@ first_small : (metal : Metal) → first_row metal ≤ 3
 first_small Gold = omega arith
 first_small Silver = omega arith
 
-inside : (c : tie.After-first-row) → c.first-row.result + c.before.args.span ≤ 5
-inside c = omega (arith, first_small c.before.args.metal, c.first-row.ensures, c.before.requires)
+inside : (c : tie.After-first_row) → c.first_row.result + c.args.span ≤ 5
+inside c = omega (arith, first_small c.args.metal, c.first_row.ensures, c.requires)
 
-first-row-requires : tie.Need-first-row-requires
+first-row-requires : tie.Need-first_row-requires
 first-row-requires c κs = search rules
 
-add-result : tie.Need-overflow-add-result
+add-result : tie.Need-overflow_add-result
 add-result c = omega (arith, inside c)
 
-mul-result : tie.Need-overflow-mul-result
+mul-result : tie.Need-offset_bounds-first_row
 mul-result c = omega (arith, inside c)
 
-array-copy-out-result : tie.Need-array-copy-out-result
+array-copy-out-result : tie.Need-bounds-first_row-first_row
 array-copy-out-result c = omega (arith, inside c)
 
 returns : tie.Need-returns
 unfolding row_at
-returns c = ap (λ (i : ℕ). get_or table (i + c.before.before.args.span) (row 0 0 0)) c.before.first-row.ensures
+returns c = ap (λ (i : ℕ). get_or table (i + c.args.span) (row 0 0 0)) c.first_row.ensures
 
-pub row-of-spec : {M : Type 1} → statement M
-row-of-spec =
+pub row_of_spec : {M : Type 1} → statement M
+row_of_spec =
     tie.close (tie.spec first-row-requires add-result mul-result array-copy-out-result returns)
