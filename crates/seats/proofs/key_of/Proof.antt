@@ -23,29 +23,29 @@ module _ (v : List ℕ) (h : is_code v ≡ true) where
   not-read : code_of v ≡ Malformed → 0 ≡ key_of v
   not-read e = cc good
 
-sub-read-code : tie.Need-overflow-sub-read-code
+sub-read-code : tie.Need-slice_bounds-read_code-count
 sub-read-code c = search rules
 
-part-read-code-start : tie.Need-slice-bounds-read-code-start
+part-read-code-start : tie.Need-slice_bounds-read_code-start
 part-read-code-start c = search rules
 
-part-read-code-end : tie.Need-slice-bounds-read-code-end
+part-read-code-end : tie.Need-slice_bounds-read_code-end
 part-read-code-end c = search rules
 
-read-code-requires : tie.Need-read-code-requires
+read-code-requires : tie.Need-read_code-requires
 read-code-requires c κs = search rules
 
-enum-known-key : tie.Need-enum-known-key
+enum-known-key : tie.Need-enum_known-key
 enum-known-key c = search rules
 
-enum_told : tie.Need-enum-told
+enum_told : tie.Need-enum_told-1
 enum_told c = search rules
 
-returns : tie.Need-returns
-returns c = let r = c.before.before.before in read _ r.before.before.before.requires.1 _ (sym r.read_code.ensures ∙ c.before.key.given.1)
+returns : tie.Need-returns-in-Key
+returns c = let r = c in read _ r.requires.1 _ (sym r.read_code.ensures ∙ c.in-Key.is)
 
-returns-2 : tie.Need-returns-2
-returns-2 c = let r = c.before.before in not-read _ r.before.before.before.requires.1 (sym r.read_code.ensures ∙ c.enum_told.given.1)
+returns-2 : tie.Need-returns-in-Malformed
+returns-2 c = let r = c in not-read _ r.requires.1 (sym r.read_code.ensures ∙ c.in-Malformed.is)
 
-pub key-of-spec : {M : Type 1} → statement M
-key-of-spec = tie.close (tie.spec sub-read-code part-read-code-start part-read-code-end read-code-requires enum-known-key enum_told returns returns-2)
+pub key_of_spec : {M : Type 1} → statement M
+key_of_spec = tie.close (tie.spec sub-read-code part-read-code-start part-read-code-end read-code-requires enum-known-key enum_told returns returns-2)

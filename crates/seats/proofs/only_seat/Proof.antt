@@ -6,43 +6,43 @@ use Rattle.seats.specs.Places.{alone, only_from}
 use Rattle.seats.proofs.only_seat.Statement.{statement}
 use Rattle.seats.proofs.only_seat.Tie as tie
 
-next-seat-requires : tie.Need-next-seat-requires
+next-seat-requires : tie.Need-next_seat-requires
 next-seat-requires c κs = search rules
 
-enum-known-seat : tie.Need-enum-known-seat
+enum-known-seat : tie.Need-enum_known-seat
 enum-known-seat c = search rules
 
-enum_told : tie.Need-enum-told
+enum_told : tie.Need-enum_told-1
 enum_told c = search rules
 
-returns : tie.Need-returns
-returns c = sym (ap (only_from c.before.before.before.before.args.book.now) (sym c.before.before.next_seat.ensures ∙ c.enum_told.given.1))
+returns : tie.Need-returns-in_default
+returns c = sym (ap (only_from c.args.book.now) (sym c.next_seat.ensures ∙ c.in_default.is))
 
-next-seat-requires-2 : tie.Need-next-seat-requires-2
+next-seat-requires-2 : tie.Need-next_seat-requires-2
 next-seat-requires-2 c κs = search rules
 
-enum-told-2 : tie.Need-enum-told-2
+enum-told-2 : tie.Need-enum_told-in-Found-next_seat
 enum-told-2 c = search rules
 
-enum-told-3 : tie.Need-enum-told-3
+enum-told-3 : tie.Need-enum_told-in-NoSeat
 enum-told-3 c = search rules
 
-returns-2 : tie.Need-returns-2
+returns-2 : tie.Need-returns-in-Found-next_seat
 returns-2 c =
-    let k = c.before.before.before in
+    let k = c in
     sym
-    (ap (only_from k.before.before.before.before.before.args.book.now) (sym k.before.before.before.next_seat.ensures ∙ k.before.seat.given.1)
-    ∙ ap (alone k.before.seat.given.0.0) (sym c.before.before.next-seat2.ensures ∙ c.enum-told2.given.1))
+    (ap (only_from k.args.book.now) (sym k.next_seat.ensures ∙ k.in-Found.is)
+    ∙ ap (alone k.in-Found.seat) (sym c.next_seat-2.ensures ∙ c.in-Found-next_seat.is))
 
-returns-3 : tie.Need-returns-3
+returns-3 : tie.Need-returns-in-NoSeat
 returns-3 c =
-    let k = c.before.before.before in
+    let k = c in
     sym
-    (ap (only_from k.before.before.before.before.before.args.book.now) (sym k.before.before.before.next_seat.ensures ∙ k.before.seat.given.1)
-    ∙ ap (alone k.before.seat.given.0.0) (sym c.before.before.next-seat2.ensures ∙ c.enum-told3.given.1))
+    (ap (only_from k.args.book.now) (sym k.next_seat.ensures ∙ k.in-Found.is)
+    ∙ ap (alone k.in-Found.seat) (sym c.next_seat-2.ensures ∙ c.in-NoSeat.is))
 
-pub only-seat-spec : {M : Type 1} → statement M
-only-seat-spec =
+pub only_seat_spec : {M : Type 1} → statement M
+only_seat_spec =
     tie.close
     (tie.spec
     next-seat-requires

@@ -14,17 +14,17 @@ divide-requires : tie.Need-divide-requires
 divide-requires c κs = search rules
 
 add-requires : tie.Need-add-requires
-add-requires c κs = let d = c.before.before.before in let s = start d in (s.pre.0.bounded.few, addable s.pre.0 s.pre.1 d.divide.ensures)
+add-requires c κs = let d = c in let s = start c.before.before in (s.requires.0.bounded.few, addable s.requires.0 s.requires.1 d.divide.ensures)
 
-same_length : tie.Need-same-length
+same_length : tie.Need-shape_of-lots
 same_length c = search rules
 
 returns : tie.Need-returns
 returns c =
-    let d = c.before.before.before.before in
-    let s = start d in
+    let d = c in
+    let s = start c.before.before.before in
     let e = d.divide.ensures in
-    (c.add.ensures ∙ offset_same s.args.count s.args.rows (dealt_at_lem s.pre.0 s.pre.1 e), as_long s.pre.0 s.pre.1 e)
+    (c.add.ensures ∙ offset_same s.args.count s.args.rows (dealt_at_lem s.requires.0 s.requires.1 e), as_long s.requires.0 s.requires.1 e)
 
-pub deal-spec : {M : Type 1} → statement M
-deal-spec = tie.close (tie.spec divide-requires add-requires same_length returns)
+pub deal_spec : {M : Type 1} → statement M
+deal_spec = tie.close (tie.spec divide-requires add-requires same_length returns)

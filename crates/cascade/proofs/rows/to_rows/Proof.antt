@@ -9,66 +9,66 @@ use Rattle.cascade.specs.Rows.{row_at}
 use Rattle.cascade.proofs.rows.to_rows.Statement.{statement}
 use Rattle.cascade.proofs.rows.to_rows.Tie as tie
 
-abbrev invariant-loop : tie.invariant-loop
-invariant-loop keys standings stakes offset count rows₀ i₀ rows i =
+abbrev invariant-loop-i : tie.invariant-loop-i
+invariant-loop-i keys standings stakes offset count rows₀ i₀ rows i =
     (i ≤ count) × Done (row_at keys standings stakes offset) i rows₀ rows
 
-abbrev decreases-loop : tie.decreases-loop
-decreases-loop keys standings stakes offset count rows₀ i₀ rows i = count - i
+abbrev decreases-loop-i : tie.decreases-loop-i
+decreases-loop-i keys standings stakes offset count rows₀ i₀ rows i = count - i
 
-loop-holds : tie.Need-loop-init invariant-loop decreases-loop
+loop-holds : tie.Need-loop-i-init invariant-loop-i decreases-loop-i
 loop-holds c = (search rules, done_none _)
 
-mul-t10 : tie.Need-overflow-mul-t10 invariant-loop decreases-loop
+mul-t10 : tie.Need-offset_bounds-keys-i invariant-loop-i decreases-loop-i
 mul-t10 c = search rules
 
-shared-slice-read-t12 : tie.Need-shared-slice-read-t12 invariant-loop decreases-loop
+shared-slice-read-t12 : tie.Need-bounds-keys-i invariant-loop-i decreases-loop-i
 shared-slice-read-t12 c = search rules
 
-shared-slice-read-t14 : tie.Need-shared-slice-read-t14 invariant-loop decreases-loop
+shared-slice-read-t14 : tie.Need-bounds-standings-i invariant-loop-i decreases-loop-i
 shared-slice-read-t14 c = search rules
 
-mul-t15 : tie.Need-overflow-mul-t15 invariant-loop decreases-loop
+mul-t15 : tie.Need-offset_bounds-stakes-i invariant-loop-i decreases-loop-i
 mul-t15 c = search rules
 
-shared-slice-read-t17 : tie.Need-shared-slice-read-t17 invariant-loop decreases-loop
+shared-slice-read-t17 : tie.Need-bounds-stakes-i invariant-loop-i decreases-loop-i
 shared-slice-read-t17 c = search rules
 
-mul-t18 : tie.Need-overflow-mul-t18 invariant-loop decreases-loop
+mul-t18 : tie.Need-offset_bounds-offset-i invariant-loop-i decreases-loop-i
 mul-t18 c = search rules
 
-shared-slice-read-t20 : tie.Need-shared-slice-read-t20 invariant-loop decreases-loop
+shared-slice-read-t20 : tie.Need-bounds-offset-i invariant-loop-i decreases-loop-i
 shared-slice-read-t20 c = search rules
 
-mul-rows : tie.Need-overflow-mul-rows invariant-loop decreases-loop
+mul-rows : tie.Need-offset_bounds-rows-i invariant-loop-i decreases-loop-i
 mul-rows c = search rules
 
-array-set-from-rows : tie.Need-array-set-from-rows invariant-loop decreases-loop
+array-set-from-rows : tie.Need-bounds-rows-i invariant-loop-i decreases-loop-i
 array-set-from-rows c = search rules
 
-add-i : tie.Need-overflow-add-i invariant-loop decreases-loop
+add-i : tie.Need-overflow_add-i invariant-loop-i decreases-loop-i
 add-i c = search rules
 
-loop-less : tie.Need-loop-smaller invariant-loop decreases-loop
+loop-less : tie.Need-loop-i-smaller invariant-loop-i decreases-loop-i
 loop-less c = search rules
 
-loop-again : tie.Need-loop-preserved invariant-loop decreases-loop
+loop-again : tie.Need-loop-i-preserved invariant-loop-i decreases-loop-i
 loop-again c =
-    let b = c.before.before.before.before.before in
-    (search rules, done_more b.loop.invariant.1 (omega (arith, b.before.requires.few)) refl)
+    let b = c in
+    (search rules, done_more b.loop-i.invariant.1 (omega (arith, b.requires.few)) refl)
 
-returns : tie.Need-returns invariant-loop decreases-loop
+returns : tie.Need-returns invariant-loop-i decreases-loop-i
 returns c =
-    let b = c.before in
-    let e : b.loop.i ≡ b.before.args.count = omega arith in
-    done_all b.loop.invariant.1 e
+    let b = c in
+    let e : b.loop-i.i ≡ b.args.count = omega arith in
+    done_all b.loop-i.invariant.1 e
 
-pub to-rows-spec : {M : Type 1} → statement M
-to-rows-spec =
+pub to_rows_spec : {M : Type 1} → statement M
+to_rows_spec =
     tie.close
     (tie.spec
-    invariant-loop
-    decreases-loop
+    invariant-loop-i
+    decreases-loop-i
     loop-holds
     mul-t10
     shared-slice-read-t12

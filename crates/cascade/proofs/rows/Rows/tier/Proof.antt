@@ -14,19 +14,14 @@ use Rattle.cascade.proofs.Tier as law
 use Rattle.cascade.proofs.rows.Rows.tier.Statement.{statement}
 use Rattle.cascade.proofs.rows.Rows.tier.Tie as tie
 
-abbrev begin : tie.After-take-keys → tie.Start
+abbrev begin : tie.After-take_keys → tie.Start
 begin t = t.before.before.before
 
 -- the columns of the rows, with the keys that were taken out
-<<<<<<< HEAD
-abbrev cols : tie.After-take-keys → Columns
-cols t = let a = (begin t).args in columns t.take-keys.new.1.1.0 (map standing_in a.self.rows) (map stake_in a.self.rows) a.count
-=======
 abbrev cols : tie.After-take_keys → Columns
 cols t = let a = (begin t).args in columns t.take_keys.new.keys (map standing_in a.self.rows) (map stake_in a.self.rows) a.count
->>>>>>> a58286b830dbca25d157071f7f702fe5c3e885e4
 
-steady : (t : tie.After-take-keys) → Steady 4_000_000_000 (cols t) (state_of (begin t).args.self)
+steady : (t : tie.After-take_keys) → Steady 4_000_000_000 (cols t) (state_of (begin t).args.self)
 steady t =
     let s = (begin t).requires.0 in
     record {
@@ -41,152 +36,105 @@ steady t =
     }
 
 -- the same tier as with the rows' own keys
-<<<<<<< HEAD
-own : (t : tie.After-take-keys) → let a = (begin t).args in after_tier a.k (cols t) (state_of a.self) ≡ after_tier a.k (columns_of a.self.rows a.count) (state_of a.self)
-own t = let a = (begin t).args in own_keys a.k a.count a.self.total a.self.rows t.take-keys.new.1.1.0 _ t.take-keys.ensures
-=======
 own : (t : tie.After-take_keys) → let a = (begin t).args in after_tier a.k (cols t) (state_of a.self) ≡ after_tier a.k (columns_of a.self.rows a.count) (state_of a.self)
 own t = let a = (begin t).args in own_keys a.k a.count a.self.total a.self.rows t.take_keys.new.keys _ t.take_keys.ensures
->>>>>>> a58286b830dbca25d157071f7f702fe5c3e885e4
 
-abbrev waited : tie.After-lesser → tie.After-weigh2
+abbrev waited : tie.After-lesser-x → tie.After-weigh-pending
 waited l = l.before.before
 
-abbrev offers : tie.After-lesser → tie.After-weigh
-offers l = (waited l).before.before.before
+abbrev offers : tie.After-lesser-x → tie.After-weigh-offered
+offers l = l.before.before.before.before.before
 
-abbrev keyed : tie.After-lesser → tie.After-take-keys
-keyed l = (offers l).before.before.before
+abbrev keyed : tie.After-lesser-x → tie.After-take_keys
+keyed l = l.before.before.before.before.before.before.before.before
 
-abbrev rows_of : tie.After-lesser → List Row
+abbrev rows_of : tie.After-lesser-x → List Row
 rows_of l = (begin (keyed l)).args.self.rows
 
-slice-aggregate-take-keys : tie.Need-slice-aggregate-take-keys
+slice-aggregate-take-keys : tie.Need-slice_bounds-take_keys-end
 slice-aggregate-take-keys c = search rules
 
-take-keys-requires : tie.Need-take-keys-requires
-take-keys-requires c κs = let s = c.before.before in (s.requires.0.few, omega (arith, s.requires.0.few))
+take-keys-requires : tie.Need-take_keys-requires
+take-keys-requires c κs = let s = c in (s.requires.0.few, omega (arith, s.requires.0.few))
 
-slice-aggregate-weigh : tie.Need-slice-aggregate-weigh
+slice-aggregate-weigh : tie.Need-slice_bounds-weigh-end
 slice-aggregate-weigh c = search rules
 
-weigh-requires : tie.Need-weigh-requires
-weigh-requires c κs = let s = begin c.before.before in (law.staked s.pre.0, s.pre.0.few)
+weigh-requires : tie.Need-weigh-offered-requires
+weigh-requires c κs = let s = begin c.before.before in (law.staked s.requires.0, s.requires.0.few)
 
-slice-aggregate-weigh-2 : tie.Need-slice-aggregate-weigh-2
+slice-aggregate-weigh-2 : tie.Need-slice_bounds-weigh-end-2
 slice-aggregate-weigh-2 c = search rules
 
-weigh-requires-2 : tie.Need-weigh-requires-2
-weigh-requires-2 c κs = let w = c.before.before in (law.staked (begin w.before.before.before).requires.0, law.weighed_room w.weigh.ensures)
+weigh-requires-2 : tie.Need-weigh-pending-requires
+weigh-requires-2 c κs = let w = c in (law.staked (begin c.before.before.before.before.before).requires.0, law.weighed_room w.weigh-offered.ensures)
 
-lesser-requires : tie.Need-lesser-requires
+lesser-requires : tie.Need-lesser-x-requires
 lesser-requires c κs = search rules
 
-<<<<<<< HEAD
-found : (l : tie.After-lesser) → let t = keyed l in Found (begin t).args.k (cols t) (state_of (begin t).args.self) l.lesser.result (offers l).weigh.result (waited l).weigh2.result
-=======
 found : (l : tie.After-lesser-x) → let t = keyed l in Found (begin t).args.k (cols t) (state_of (begin t).args.self) l.lesser-x.result (offers l).weigh-offered.result (waited l).weigh-pending.result
->>>>>>> a58286b830dbca25d157071f7f702fe5c3e885e4
 found l =
     let t = keyed l in
     record {
       steady = steady t;
-<<<<<<< HEAD
-      first = (begin t).pre.1.0;
-      last = (begin t).pre.1.1;
-      offers = (offers l).weigh.ensures.sum;
-      waits = (waited l).weigh2.ensures.sum;
-      smaller = l.lesser.ensures;
-=======
       first = (begin t).requires.1.0;
       last = (begin t).requires.1.1;
       offers = (offers l).weigh-offered.ensures.sum;
       waits = (waited l).weigh-pending.ensures.sum;
       smaller = l.lesser-x.ensures;
->>>>>>> a58286b830dbca25d157071f7f702fe5c3e885e4
     }
 
-returns : tie.Need-returns
-returns c = (refl, law.rests (found c.before) c.if1.true ∙ own (keyed c.before))
+returns : tie.Need-returns-then-x-eq0
+returns c = (refl, law.rests (found c.before) c.if-x-eq0.true ∙ own (keyed c.before))
 
-slice-aggregate-deal : tie.Need-slice-aggregate-deal
+slice-aggregate-deal : tie.Need-slice_bounds-deal-end
 slice-aggregate-deal c = search rules
 
-slice-aggregate-deal-2 : tie.Need-slice-aggregate-deal-2
+slice-aggregate-deal-2 : tie.Need-slice_bounds-deal-end-2
 slice-aggregate-deal-2 c = search rules
 
-deal-requires : tie.Need-deal-requires
+deal-requires : tie.Need-deal-closed-requires
 deal-requires c κs =
-<<<<<<< HEAD
-    let l = c.before.before.before in
-    let w = (waited l).weigh2.ensures in
-    (law.pending_lent (found l) w, law.pending_open (found l) w)
-=======
     let l = c in
     let w = (waited c.before.before.before).weigh-pending.ensures in
     (law.pending_lent (found c.before.before.before) w, law.pending_open (found c.before.before.before) w)
->>>>>>> a58286b830dbca25d157071f7f702fe5c3e885e4
 
 -- the first division is done
-abbrev counted : tie.After-deal → tie.After-lesser
+abbrev counted : tie.After-deal-closed → tie.After-lesser-x
 counted d = d.before.before.before.before
 
-slice-aggregate-weigh-3 : tie.Need-slice-aggregate-weigh-3
+slice-aggregate-weigh-3 : tie.Need-slice_bounds-weigh-end-3
 slice-aggregate-weigh-3 c = search rules
 
-weigh-requires-3 : tie.Need-weigh-requires-3
+weigh-requires-3 : tie.Need-weigh-requires
 weigh-requires-3 c κs =
-<<<<<<< HEAD
-    let d = c.before.before in
-    let l = counted d in
-    let w = (waited l).weigh2.ensures in
-    (closed_staked _ _ _ (rows_of l) _ (found l) w d.deal.ensures.0, omega (arith, d.deal.ensures.1, law.weighed_room w))
-=======
     let d = c in
     let l = counted c.before.before in
     let w = (waited l).weigh-pending.ensures in
     (closed_staked _ _ _ (rows_of l) _ (found l) w d.deal-closed.ensures.0, omega (arith, d.deal-closed.ensures.1, law.weighed_room w))
->>>>>>> a58286b830dbca25d157071f7f702fe5c3e885e4
 
-slice-aggregate-deal-3 : tie.Need-slice-aggregate-deal-3
+slice-aggregate-deal-3 : tie.Need-slice_bounds-deal-end-3
 slice-aggregate-deal-3 c = search rules
 
-slice-aggregate-deal-4 : tie.Need-slice-aggregate-deal-4
+slice-aggregate-deal-4 : tie.Need-slice_bounds-deal-end-4
 slice-aggregate-deal-4 c = search rules
 
-deal-requires-2 : tie.Need-deal-requires-2
+deal-requires-2 : tie.Need-deal-given-requires
 deal-requires-2 c κs =
-<<<<<<< HEAD
-    let v = c.before.before.before in
-    let d = v.before.before.before in
-    let l = counted d in
-    let w = (waited l).weigh2.ensures in
-    (closed_lent _ _ _ (rows_of l) _ (found l) w d.deal.ensures.0 v.weigh3.ensures, closed_open _ _ _ (rows_of l) _ (found l) w d.deal.ensures.0 v.weigh3.ensures)
-=======
     let v = c in
     let d = v in
     let l = counted c.before.before.before.before.before.before in
     let w = (waited l).weigh-pending.ensures in
     (closed_lent _ _ _ (rows_of l) _ (found l) w d.deal-closed.ensures.0 v.weigh.ensures, closed_open _ _ _ (rows_of l) _ (found l) w d.deal-closed.ensures.0 v.weigh.ensures)
->>>>>>> a58286b830dbca25d157071f7f702fe5c3e885e4
 
-add-t24 : tie.Need-overflow-add-t24
+add-t24 : tie.Need-overflow_add-result
 add-t24 c =
-    let y = c.before.before in
-    let d = y.before.before.before.before.before.before.before in
-    omega (arith, law.total_fits (found (counted d)))
+    let y = c in
+    let d = y in
+    omega (arith, law.total_fits (found (counted c.before.before.before.before.before.before.before.before.before)))
 
-returns-2 : tie.Need-returns-2
+returns-2 : tie.Need-returns
 returns-2 c =
-<<<<<<< HEAD
-    let y = c.before.before in
-    let v = y.before.before.before.before in
-    let d = v.before.before.before in
-    let l = counted d in
-    let w = (waited l).weigh2.ensures in (
-      given_columns _ _ _ (rows_of l) _ (found l) w d.deal.ensures.0 v.weigh3.ensures y.deal2.ensures.0,
-      given_state _ _ _ (rows_of l) _ (found l) w d.deal.ensures.0 v.weigh3.ensures y.deal2.ensures.0 ∙ own (keyed l),
-=======
     let y = c in
     let v = y in
     let d = v in
@@ -194,11 +142,10 @@ returns-2 c =
     let w = (waited l).weigh-pending.ensures in (
       given_columns _ _ _ (rows_of l) _ (found l) w d.deal-closed.ensures.0 v.weigh.ensures y.deal-given.ensures.0,
       given_state _ _ _ (rows_of l) _ (found l) w d.deal-closed.ensures.0 v.weigh.ensures y.deal-given.ensures.0 ∙ own (keyed l),
->>>>>>> a58286b830dbca25d157071f7f702fe5c3e885e4
     )
 
-pub tier-spec : {M : Type 1} → statement M
-tier-spec =
+pub tier_spec : {M : Type 1} → statement M
+tier_spec =
     tie.close
     (tie.spec
     slice-aggregate-take-keys
