@@ -14,29 +14,29 @@ use borrow.Author.Rules.{rules}
 use Rattle.allotment.proofs.close.Statement.{statement}
 use Rattle.allotment.proofs.close.Tie as tie
 
-abbrev start : tie.After-staked → tie.Start
+abbrev start : tie.After-staked-owed → tie.Start
 start o = o.before.before.before.before
 
-abbrev cols : tie.After-staked → Columns
+abbrev cols : tie.After-staked-owed → Columns
 cols o = let a = (start o).args in columns a.keys.now a.standings.now a.stakes.now a.count
 
-staked-requires : tie.Need-staked-requires
-staked-requires c κs = let p = c.before.before.before.requires in record { few = p.few; stood = p.stood; staked = p.staked; small = λ i l. (p.each i l).small }
+staked-requires : tie.Need-staked-owed-requires
+staked-requires c κs = let p = c.requires in record { few = p.few; stood = p.stood; staked = p.staked; small = λ i l. (p.each i l).small }
 
-run-requires : tie.Need-run-requires
+run-requires : tie.Need-run-end-requires
 run-requires c κs =
     let s = start c in
-    (s.pre, c.staked.ensures ∙ owed_is (cols c) at_first (λ i l. get_or-replicate {A = ℕ} most_customers i 0 0 (omega (arith, s.pre.few))))
+    (s.requires, c.staked-owed.ensures ∙ owed_is (cols c) at_first (λ i l. get_or-replicate {A = ℕ} most_customers i 0 0 (omega (arith, s.requires.few))))
 
 less-requires : tie.Need-less-requires
 less-requires c κs = search rules
 
 returns : tie.Need-returns
 returns c =
-    let r = c.before.before in
-    let o = r.before in
-    let e : r.run.result ≡ after_all (cols o) at_first = r.run.ensures in
-    let w = o.staked.ensures ∙ owed_is (cols o) at_first (λ i l. get_or-replicate {A = ℕ} most_customers i 0 0 (omega (arith, (start o).requires.few))) in
+    let r = c in
+    let o = r in
+    let e : r.run-end.result ≡ after_all (cols c.before.before.before) at_first = r.run-end.ensures in
+    let w = o.staked-owed.ensures ∙ owed_is (cols c.before.before.before) at_first (λ i l. get_or-replicate {A = ℕ} most_customers i 0 0 (omega (arith, (start c.before.before.before).requires.few))) in
     let m = c.less.ensures ∙ ap₂ (λ (x : ℕ) (y : Cascade). x - y.total) w e in
     λ j. record { offset = (e j).offset; total = (e j).total; residue = m j }
 

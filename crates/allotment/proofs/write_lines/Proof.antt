@@ -6,18 +6,18 @@ use borrow.Author.Rules.{rules}
 use Rattle.allotment.proofs.write_lines.Statement.{statement}
 use Rattle.allotment.proofs.write_lines.Tie as tie
 
-put-sheet-requires : tie.Need-put-sheet-requires
+put-sheet-requires : tie.Need-put_sheet-length-requires
 put-sheet-requires c κs = search rules
 
-same_length : tie.Need-same-length
+same_length : tie.Need-shape_of-report
 same_length c = search rules
 
 returns : tie.Need-returns
 returns c =
-    let p = c.before.before in
-    let s = p.before.before.before.before.before.before.before in
+    let p = c in
+    let s = p in
     let a = s.args in
-    fits (report_bytes (sheet a.book.now a.starts.now a.standings.now a.offset.now a.count a.total a.residue)) a.report.now _ p.put_sheet.result s.requires.1 p.put_sheet.ensures.whole p.put_sheet.ensures.next
+    fits (report_bytes (sheet a.book.now a.starts.now a.standings.now a.offset.now a.count a.total a.residue)) a.report.now _ p.put_sheet-length.result s.requires.1 p.put_sheet-length.ensures.whole p.put_sheet-length.ensures.next
 
-pub write-lines-spec : {M : Type 1} → statement M
-write-lines-spec = tie.close (tie.spec put-sheet-requires same_length returns)
+pub write_lines_spec : {M : Type 1} → statement M
+write_lines_spec = tie.close (tie.spec put-sheet-requires same_length returns)
