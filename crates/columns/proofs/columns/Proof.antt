@@ -15,76 +15,76 @@ use borrow.Author.Rules.{rules}
 use Rattle.columns.proofs.columns.Statement.{statement}
 use Rattle.columns.proofs.columns.Tie as tie
 
-abbrev rolled : tie.After-struct-known → tie.After-read-roll
+abbrev rolled : tie.After-struct_known-1 → tie.After-read_roll-roll
 rolled k = k.before.before.before.before.before.before
 
-abbrev begin : tie.After-read-roll → tie.Start
+abbrev begin : tie.After-read_roll-roll → tie.Start
 begin r = r.before.before.before.before.before.before.before.before.before.before
 
-wide : (r : tie.After-read-roll) → let l = r.read_roll.new.1 in Room l.0 l.1.0 l.1.1.0 l.1.1.1.0
+wide : (r : tie.After-read_roll-roll) → let l = r.read_roll-roll.new in Room l.keys l.starts l.standings l.stakes
 wide r = search rules
 
-accepted : (e : tie.Else1) → let r = rolled e.before in let l = r.read_roll.last.1 in
-    Accepts (begin r).args.book.now l.0 l.1.0 l.1.1.0 l.1.1.1.0 r.read_roll.result r.read_roll.ensures.rolled
-accepted e = let r = rolled e.before in let l = r.read_roll.last.1 in
-    accepts (begin r).args.book.now l.0 l.1.0 l.1.1.0 l.1.1.1.0 r.read_roll.result r.read_roll.ensures.rolled e.if1.false
+accepted : (e : tie.Else-refused-ne-ACCEPTED) → let r = rolled e.before in let l = r.read_roll.new.1 in
+    Accepts (begin r).args.book.now l.keys l.starts l.standings l.stakes r.read_roll-roll.result r.read_roll-roll.ensures.rolled
+accepted e = let r = rolled e.before in let l = r.read_roll.new.1 in
+    accepts (begin r).args.book.now l.keys l.starts l.standings l.stakes r.read_roll-roll.result r.read_roll-roll.ensures.rolled e.if-refused-ne-ACCEPTED.false
 
-abbrev left : tie.After-close → tie.Else1
+abbrev left : tie.After-close-closed → tie.Else-refused-ne-ACCEPTED
 left d = d.before.before.before.before
 
-gone : (d : tie.After-close) → let r = rolled (left d).before in let l = r.read_roll.last.1 in
-    Goes (begin r).args.book.now l.1.1.0 l.1.1.1.0 r.read_roll.result.count d.close.result
-gone d = let r = rolled (left d).before in let l = r.read_roll.last.1 in let a = accepted (left d) in
-    goes a.accepted (shows (begin r).args.book.now l.0 l.1.0 l.1.1.0 l.1.1.1.0 r.read_roll.result r.read_roll.ensures.rolled a (wide r) d.close.result d.close.ensures)
+gone : (d : tie.After-close-closed) → let r = rolled (left d).before in let l = r.read_roll.new.1 in
+    Goes (begin r).args.book.now l.standings l.stakes r.read_roll-roll.result.count d.close-closed.result
+gone d = let r = rolled (left d).before in let l = r.read_roll.new.1 in let a = accepted (left d) in
+    goes a.accepted (shows (begin r).args.book.now l.keys l.starts l.standings l.stakes r.read_roll-roll.result r.read_roll-roll.ensures.rolled a (wide r) d.close-closed.result d.close-closed.ensures)
 
 -- the answers to all runs are the same ones
 same : {a b : (Runs → List ℕ) → Answer01} {entry exit : Runs} {r : Answer} → a ≡ b → Viewed b entry exit r → Viewed a entry exit r
 same {a} {b} {entry} {exit} {r} e v = subst (λ (f : (Runs → List ℕ) → Answer01). Viewed f entry exit r) (sym e) v
 
-slice-aggregate-read-roll : tie.Need-slice-aggregate-read-roll
+slice-aggregate-read-roll : tie.Need-slice_bounds-read_roll-end
 slice-aggregate-read-roll c = search rules
 
-slice-aggregate-read-roll-2 : tie.Need-slice-aggregate-read-roll-2
+slice-aggregate-read-roll-2 : tie.Need-slice_bounds-read_roll-end-2
 slice-aggregate-read-roll-2 c = search rules
 
-slice-aggregate-read-roll-3 : tie.Need-slice-aggregate-read-roll-3
+slice-aggregate-read-roll-3 : tie.Need-slice_bounds-read_roll-end-3
 slice-aggregate-read-roll-3 c = search rules
 
-slice-aggregate-read-roll-4 : tie.Need-slice-aggregate-read-roll-4
+slice-aggregate-read-roll-4 : tie.Need-slice_bounds-read_roll-end-4
 slice-aggregate-read-roll-4 c = search rules
 
-read-roll-requires : tie.Need-read-roll-requires
+read-roll-requires : tie.Need-read_roll-roll-requires
 read-roll-requires c κs = search rules
 
-returns : tie.Need-returns
+returns : tie.Need-returns-then-refused-ne-ACCEPTED
 returns c =
     let r = rolled c.before in
-    let l = r.read_roll.last.1 in
-    same (stops (begin r).args.book.now (refuses (begin r).args.book.now l.0 l.1.0 l.1.1.0 l.1.1.1.0 r.read_roll.result r.read_roll.ensures.rolled c.if1.true) _) (refused_so _ _ _)
+    let l = r.read_roll.new.1 in
+    same (stops (begin r).args.book.now (refuses (begin r).args.book.now l.keys l.starts l.standings l.stakes r.read_roll-roll.result r.read_roll-roll.ensures.rolled c.if-refused-ne-ACCEPTED.true) _) (refused_so _ _ _)
 
-slice-aggregate-close : tie.Need-slice-aggregate-close
+slice-aggregate-close : tie.Need-slice_bounds-close-end
 slice-aggregate-close c = search rules
 
-slice-aggregate-close-2 : tie.Need-slice-aggregate-close-2
+slice-aggregate-close-2 : tie.Need-slice_bounds-close-end-2
 slice-aggregate-close-2 c = search rules
 
-slice-aggregate-close-3 : tie.Need-slice-aggregate-close-3
+slice-aggregate-close-3 : tie.Need-slice_bounds-close-end-3
 slice-aggregate-close-3 c = search rules
 
-close-requires : tie.Need-close-requires
+close-requires : tie.Need-close-closed-requires
 close-requires c κs =
-    let e = c.before.before.before in
-    let r = rolled e.before in
-    let l = r.read_roll.last.1 in
-    steady (begin r).args.book.now l.0 l.1.0 l.1.1.0 l.1.1.1.0 r.read_roll.result r.read_roll.ensures.rolled (accepted e) (wide r)
+    let e = c in
+    let r = rolled c.before.before.before.before in
+    let l = r.read_roll.new.1 in
+    steady (begin r).args.book.now l.keys l.starts l.standings l.stakes r.read_roll-roll.result r.read_roll-roll.ensures.rolled (accepted c.before.before.before) (wide r)
 
-slice-aggregate-show : tie.Need-slice-aggregate-show
+slice-aggregate-show : tie.Need-slice_bounds-show-end
 slice-aggregate-show c = search rules
 
-slice-aggregate-show-2 : tie.Need-slice-aggregate-show-2
+slice-aggregate-show-2 : tie.Need-slice_bounds-show-end-2
 slice-aggregate-show-2 c = search rules
 
-slice-aggregate-show-3 : tie.Need-slice-aggregate-show-3
+slice-aggregate-show-3 : tie.Need-slice_bounds-show-end-3
 slice-aggregate-show-3 c = search rules
 
 show-requires : tie.Need-show-requires
@@ -92,22 +92,22 @@ show-requires c κs =
     let g = gone c.before.before.before.before.before.before.before.before in
     record { stood = g.stood; staked = omega (arith, g.few); wide = g.wide }
 
-same_length : tie.Need-same-length
+same_length : tie.Need-shape_of-standings
 same_length c = search rules
 
-same-length-2 : tie.Need-same-length-2
+same-length-2 : tie.Need-shape_of-offered
 same-length-2 c = search rules
 
-same-length-3 : tie.Need-same-length-3
+same-length-3 : tie.Need-shape_of-pending
 same-length-3 c = search rules
 
-same-length-4 : tie.Need-same-length-4
+same-length-4 : tie.Need-shape_of-offsets
 same-length-4 c = search rules
 
-returns-2 : tie.Need-returns-2
+returns-2 : tie.Need-returns
 returns-2 c =
-    let p = c.before.before.before.before.before.before.before.before in
-    same ((gone p.before.before.before.before.before.before.before.before.before).answers _) p.show.ensures
+    let p = c in
+    same ((gone c.before.before.before.before.before.before.before.before.before.before.before.before.before.before.before.before.before).answers _) p.show.ensures
 
 pub columns_spec : {M : Type 1} → statement M
 columns_spec =
