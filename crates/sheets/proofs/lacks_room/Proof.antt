@@ -7,14 +7,14 @@ use borrow.Author.Tests.{lt-ltb, le-ltb}
 use Rattle.sheets.proofs.lacks_room.Statement.{statement}
 use Rattle.sheets.proofs.lacks_room.Tie as tie
 
-returns : tie.Need-returns
-returns c = let a = c.before.args in sym (lt-ltb a.room (6 + a.size) (omega arith))
+returns : tie.Need-returns-then-room-lt-MARK_LINE
+returns c = let a = c.args in sym (lt-ltb a.room (6 + a.size) (omega arith))
 
-returns-2 : tie.Need-returns-2
-returns-2 c = let a = c.before.before.args in sym (lt-ltb a.room (6 + a.size) (omega arith))
+returns-2 : tie.Need-returns-then-room-size
+returns-2 c = let a = c.args in sym (lt-ltb a.room (6 + a.size) (omega arith))
 
-returns-3 : tie.Need-returns-3
-returns-3 c = let a = c.before.before.args in sym (le-ltb a.room (6 + a.size) (omega arith))
+returns-3 : tie.Need-returns
+returns-3 c = let a = c.args in sym (le-ltb a.room (6 + a.size) (omega arith))
 
-pub lacks-room-spec : {M : Type 1} → statement M
-lacks-room-spec = tie.close (tie.spec returns returns-2 returns-3)
+pub lacks_room_spec : {M : Type 1} → statement M
+lacks_room_spec = tie.close (tie.spec returns returns-2 returns-3)

@@ -19,14 +19,14 @@ module _ (m : ℕ) where
   neither : (m ≡ code "," → ⊥) → (m ≡ code "." → ⊥) → not (is_mark m) ≡ true
   neither c p = simp (ne_eqb m (code ",") c, ne_eqb m (code ".") p)
 
-returns : tie.Need-returns
-returns c = sym (a_comma c.before.args.mark c.if1.true)
+returns : tie.Need-returns-then-mark-eq44
+returns c = sym (a_comma c.args.mark c.if-mark-eq44.true)
 
-returns-2 : tie.Need-returns-2
-returns-2 c = sym (a_point c.before.before.args.mark c.before.if1.false c.if2.true)
+returns-2 : tie.Need-returns-then-mark-eq46
+returns-2 c = sym (a_point c.args.mark c.if-mark-eq44.false c.if-mark-eq46.true)
 
-returns-3 : tie.Need-returns-3
-returns-3 c = sym (neither c.before.before.args.mark c.before.if1.false c.if2.false)
+returns-3 : tie.Need-returns
+returns-3 c = sym (neither c.args.mark c.if-mark-eq44.false c.if-mark-eq46.false)
 
-pub no-mark-spec : {M : Type 1} → statement M
-no-mark-spec = tie.close (tie.spec returns returns-2 returns-3)
+pub no_mark_spec : {M : Type 1} → statement M
+no_mark_spec = tie.close (tie.spec returns returns-2 returns-3)

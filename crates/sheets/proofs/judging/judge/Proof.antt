@@ -18,26 +18,26 @@ told s keys starts standings stakes r (Accepted terms cs) e = e.0
 left_so : {s keys starts standings stakes : List ℕ} {r : Roll} {full : Columns} → Left s (judge s) full keys starts standings stakes r → r.refusal ≡ refusal_of (judge s)
 left_so {s} {keys} {starts} {standings} {stakes} {r} l = told s keys starts standings stakes r (judge s) l.rolled
 
-slice-aggregate-read-roll : tie.Need-slice-aggregate-read-roll
+slice-aggregate-read-roll : tie.Need-slice_bounds-read_roll-end
 slice-aggregate-read-roll c = search rules
 
-slice-aggregate-read-roll-2 : tie.Need-slice-aggregate-read-roll-2
+slice-aggregate-read-roll-2 : tie.Need-slice_bounds-read_roll-end-2
 slice-aggregate-read-roll-2 c = search rules
 
-slice-aggregate-read-roll-3 : tie.Need-slice-aggregate-read-roll-3
+slice-aggregate-read-roll-3 : tie.Need-slice_bounds-read_roll-end-3
 slice-aggregate-read-roll-3 c = search rules
 
-slice-aggregate-read-roll-4 : tie.Need-slice-aggregate-read-roll-4
+slice-aggregate-read-roll-4 : tie.Need-slice_bounds-read_roll-end-4
 slice-aggregate-read-roll-4 c = search rules
 
-read-roll-requires : tie.Need-read-roll-requires
+read-roll-requires : tie.Need-read_roll-roll-requires
 read-roll-requires c κs = search rules
 
 returns : tie.Need-returns
-returns c = left_so c.before.before.before.before.before.read_roll.ensures
+returns c = left_so c.read_roll-roll.ensures
 
-pub judge-spec : {M : Type 1} → statement M
-judge-spec =
+pub judge_spec : {M : Type 1} → statement M
+judge_spec =
     tie.close
     (tie.spec
     slice-aggregate-read-roll

@@ -4,11 +4,11 @@ use borrow.Author.Tests.{eq-eqb, ne_eqb}
 use Rattle.sheets.proofs.line.stops.Statement.{statement}
 use Rattle.sheets.proofs.line.stops.Tie as tie
 
-returns : tie.Need-returns
-returns c = simp (eq-eqb _ _ c.if1.true)
+returns : tie.Need-returns-then-byte-eq10
+returns c = simp (eq-eqb _ _ c.if-byte-eq10.true)
 
-returns-2 : tie.Need-returns-2
-returns-2 c = simp (ne_eqb _ _ c.if1.false)
+returns-2 : tie.Need-returns
+returns-2 c = simp (ne_eqb _ _ c.if-byte-eq10.false)
 
-pub stops-spec : {M : Type 1} → statement M
-stops-spec = tie.close (tie.spec returns returns-2)
+pub stops_spec : {M : Type 1} → statement M
+stops_spec = tie.close (tie.spec returns returns-2)

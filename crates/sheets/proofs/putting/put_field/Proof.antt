@@ -7,22 +7,22 @@ use Rattle.sheets.proofs.Carries.{spelt_length, field_wrote}
 use Rattle.sheets.proofs.putting.put_field.Statement.{statement}
 use Rattle.sheets.proofs.putting.put_field.Tie as tie
 
-put-tag-requires : tie.Need-put-tag-requires
+put-tag-requires : tie.Need-put_tag-behind-requires
 put-tag-requires c κs = search rules
 
-put-respelled-requires : tie.Need-put-respelled-requires
+put-respelled-requires : tie.Need-put_respelled-requires
 put-respelled-requires c κs = search rules
 
-same_length : tie.Need-same-length
+same_length : tie.Need-shape_of-out
 same_length c = search rules
 
 returns : tie.Need-returns
 returns c =
-    let second = c.before.before in
-    let first = second.before.before.before.before in
-    let a = first.before.before.before.before.args in
+    let second = c in
+    let first = second in
+    let a = first.args in
     let size = spelt_length a.mark a.value.now in
-    (field_wrote a.mark a.tag a.value.now (join first.put-tag.ensures second.put-respelled.ensures (omega arith)), omega arith)
+    (field_wrote a.mark a.tag a.value.now (join first.put_tag-behind.ensures second.put_respelled.ensures (omega arith)), omega arith)
 
-pub put-field-spec : {M : Type 1} → statement M
-put-field-spec = tie.close (tie.spec put-tag-requires put-respelled-requires same_length returns)
+pub put_field_spec : {M : Type 1} → statement M
+put_field_spec = tie.close (tie.spec put-tag-requires put-respelled-requires same_length returns)

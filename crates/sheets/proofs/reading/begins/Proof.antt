@@ -10,54 +10,54 @@ use Rattle.sheets.proofs.Begins.{too_long, next_equal, next_other, none_left}
 use Rattle.sheets.proofs.reading.begins.Statement.{statement}
 use Rattle.sheets.proofs.reading.begins.Tie as tie
 
-abbrev invariant-loop : tie.invariant-loop
-invariant-loop sheet word i₀ i = (i ≤ length word) × (length word ≤ length sheet) × (begins word sheet ≡ begins (drop i word) (drop i sheet))
+abbrev invariant-loop-i : tie.invariant-loop-i
+invariant-loop-i sheet word i₀ i = (i ≤ length word) × (length word ≤ length sheet) × (begins word sheet ≡ begins (drop i word) (drop i sheet))
 
-abbrev decreases-loop : tie.decreases-loop
-decreases-loop sheet word i₀ i = length word - i
+abbrev decreases-loop-i : tie.decreases-loop-i
+decreases-loop-i sheet word i₀ i = length word - i
 
-returns : tie.Need-returns invariant-loop decreases-loop
-returns c = sym (too_long c.before.args.word.now c.before.args.sheet.now c.if1.true)
+returns : tie.Need-returns-then-sheet-word invariant-loop-i decreases-loop-i
+returns c = sym (too_long c.args.word.now c.args.sheet.now c.if-sheet-word.true)
 
-loop-holds : tie.Need-loop-init invariant-loop decreases-loop
+loop-holds : tie.Need-loop-i-init invariant-loop-i decreases-loop-i
 loop-holds c = (search rules, omega arith, refl)
 
-shared-slice-read-if2 : tie.Need-shared-slice-read-if2 invariant-loop decreases-loop
+shared-slice-read-if2 : tie.Need-bounds-sheet-i invariant-loop-i decreases-loop-i
 shared-slice-read-if2 c = search rules
 
-shared-slice-read-if2-2 : tie.Need-shared-slice-read-if2-2 invariant-loop decreases-loop
+shared-slice-read-if2-2 : tie.Need-bounds-word-i invariant-loop-i decreases-loop-i
 shared-slice-read-if2-2 c = search rules
 
-returns-2 : tie.Need-returns-2 invariant-loop decreases-loop
+returns-2 : tie.Need-returns-then-sheet-i invariant-loop-i decreases-loop-i
 returns-2 c =
-    let p = c.before.before.before.before in
-    let a = p.before.before.args in
-    sym (p.loop.invariant.2 ∙ next_other a.word.now a.sheet.now p.loop.i (omega arith) (omega arith) c.if2.true)
+    let p = c in
+    let a = p.args in
+    sym (p.loop-i.invariant.2 ∙ next_other a.word.now a.sheet.now p.loop-i.i (omega arith) (omega arith) c.if-sheet-i.true)
 
-add-i : tie.Need-overflow-add-i invariant-loop decreases-loop
+add-i : tie.Need-overflow_add-i invariant-loop-i decreases-loop-i
 add-i c = search rules
 
-loop-less : tie.Need-loop-smaller invariant-loop decreases-loop
+loop-less : tie.Need-loop-i-smaller invariant-loop-i decreases-loop-i
 loop-less c = search rules
 
-loop-again : tie.Need-loop-preserved invariant-loop decreases-loop
+loop-again : tie.Need-loop-i-preserved invariant-loop-i decreases-loop-i
 loop-again c =
-    let p = c.before.before.before.before in
-    let a = p.before.before.args in
-    (search rules, omega arith, p.loop.invariant.2 ∙ next_equal a.word.now a.sheet.now p.loop.i (omega arith) (omega arith) c.if2.false)
+    let p = c in
+    let a = p.args in
+    (search rules, omega arith, p.loop-i.invariant.2 ∙ next_equal a.word.now a.sheet.now p.loop-i.i (omega arith) (omega arith) c.if-sheet-i.false)
 
-returns-3 : tie.Need-returns-3 invariant-loop decreases-loop
+returns-3 : tie.Need-returns invariant-loop-i decreases-loop-i
 returns-3 c =
-    let p = c.before in
-    let a = p.before.before.args in
-    sym (p.loop.invariant.2 ∙ none_left a.word.now a.sheet.now p.loop.i (omega arith))
+    let p = c in
+    let a = p.args in
+    sym (p.loop-i.invariant.2 ∙ none_left a.word.now a.sheet.now p.loop-i.i (omega arith))
 
-pub begins-spec : {M : Type 1} → statement M
-begins-spec =
+pub begins_spec : {M : Type 1} → statement M
+begins_spec =
     tie.close
     (tie.spec
-    invariant-loop
-    decreases-loop
+    invariant-loop-i
+    decreases-loop-i
     returns
     loop-holds
     shared-slice-read-if2

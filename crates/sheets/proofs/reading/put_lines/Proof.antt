@@ -11,61 +11,61 @@ use Rattle.sheets.proofs.Left.{Left, left_all, left_ready, left_next, left_size,
 use Rattle.sheets.proofs.reading.put_lines.Statement.{statement}
 use Rattle.sheets.proofs.reading.put_lines.Tie as tie
 
-abbrev invariant-loop : tie.invariant-loop
-invariant-loop out₀ sheet start mark at₀ place₀ out at place = Left mark sheet at place out out₀ (book_of (lines_from mark 2 (lines_of (drop start sheet))))
+abbrev invariant-loop-at : tie.invariant-loop-at
+invariant-loop-at out₀ sheet start mark at₀ place₀ out at place = Left mark sheet at place out out₀ (book_of (lines_from mark 2 (lines_of (drop start sheet))))
 
-abbrev decreases-loop : tie.decreases-loop
-decreases-loop out₀ sheet start mark at₀ place₀ out at place = length sheet - at
+abbrev decreases-loop-at : tie.decreases-loop-at
+decreases-loop-at out₀ sheet start mark at₀ place₀ out at place = length sheet - at
 
-loop-holds : tie.Need-loop-init invariant-loop decreases-loop
-loop-holds c = let k = c.before.before in let a = k.args in left_all a.mark a.sheet.now a.start a.out.now k.requires
+loop-holds : tie.Need-loop-at-init invariant-loop-at decreases-loop-at
+loop-holds c = let k = c in let a = k.args in left_all a.mark a.sheet.now a.start a.out.now k.requires
 
-put-line-requires : tie.Need-put-line-requires invariant-loop decreases-loop
+put-line-requires : tie.Need-put_line-line-requires invariant-loop-at decreases-loop-at
 put-line-requires c κs =
-    let t = c.before in
-    let l = t.before in
-    let p = l.before.before.before.requires in
-    left_ready l.loop.invariant t.loop-test.true p.short p.unlike p.room
+    let t = c in
+    let l = t in
+    let p = l.requires in
+    left_ready l.loop-at.invariant t.loop-at-test.true p.short p.unlike p.room
 
-loop-less : tie.Need-loop-smaller invariant-loop decreases-loop
+loop-less : tie.Need-loop-at-smaller invariant-loop-at decreases-loop-at
 loop-less c =
-    let w = c.before.before.put_line.ensures in
+    let w = c.put_line-line.ensures in
     let forward = w.forward in
     let within = w.within in
     omega arith
 
-loop-again : tie.Need-loop-preserved invariant-loop decreases-loop
+loop-again : tie.Need-loop-at-preserved invariant-loop-at decreases-loop-at
 loop-again c =
-    let w = c.before.before in
-    let t = w.before.before in
-    let l = t.before in
-    let p = l.before.before.before.requires in
-    left_next l.loop.invariant t.loop-test.true p.room w.put_line.ensures
+    let w = c in
+    let t = w in
+    let l = t in
+    let p = l.requires in
+    left_next l.loop-at.invariant t.loop-at-test.true p.room w.put_line-line.ensures
 
-put-three-requires : tie.Need-put-three-requires invariant-loop decreases-loop
+put-three-requires : tie.Need-put_three-requires invariant-loop-at decreases-loop-at
 put-three-requires c κs =
-    let e = c.before in
-    let l = e.before in
-    let room = l.before.before.before.requires.room in
-    let size = left_size l.loop.invariant e.loop-test.false in
-    let long = l.loop.invariant.long in
+    let e = c in
+    let l = e in
+    let room = l.requires.room in
+    let size = left_size l.loop-at.invariant e.loop-at-test.false in
+    let long = l.loop-at.invariant.long in
     omega arith
 
-same_length : tie.Need-same-length invariant-loop decreases-loop
-same_length c = let long = c.before.before.before.before.before.loop.invariant.long in search rules
+same_length : tie.Need-shape_of-out invariant-loop-at decreases-loop-at
+same_length c = let long = c.loop-at.invariant.long in search rules
 
-returns : tie.Need-returns invariant-loop decreases-loop
+returns : tie.Need-returns invariant-loop-at decreases-loop-at
 returns c =
-    let w = c.before.before in
-    let e = w.before.before in
-    left_end e.before.loop.invariant e.loop-test.false w.put_three.ensures
+    let w = c in
+    let e = w in
+    left_end e.loop-at.invariant e.loop-at-test.false w.put_three.ensures
 
-pub put-lines-spec : {M : Type 1} → statement M
-put-lines-spec =
+pub put_lines_spec : {M : Type 1} → statement M
+put_lines_spec =
     tie.close
     (tie.spec
-    invariant-loop
-    decreases-loop
+    invariant-loop-at
+    decreases-loop-at
     loop-holds
     put-line-requires
     loop-less

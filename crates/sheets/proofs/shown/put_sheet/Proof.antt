@@ -7,38 +7,34 @@ use Rattle.sheets.specs.Write.{sheet_of}
 use Rattle.sheets.proofs.shown.put_sheet.Statement.{statement}
 use Rattle.sheets.proofs.shown.put_sheet.Tie as tie
 
-slice-aggregate-put-bytes : tie.Need-slice-aggregate-put-bytes
-slice-aggregate-put-bytes c = search rules
-
-put-bytes-requires : tie.Need-put-bytes-requires
+put-bytes-requires : tie.Need-put_bytes-word-requires
 put-bytes-requires c κs = search rules
 
-put-byte-requires : tie.Need-put-byte-requires
+put-byte-requires : tie.Need-put_byte-end-requires
 put-byte-requires c κs = search rules
 
-put-byte-requires-2 : tie.Need-put-byte-requires-2
+put-byte-requires-2 : tie.Need-put_byte-first-requires
 put-byte-requires-2 c κs = search rules
 
-put-fields-requires : tie.Need-put-fields-requires
+put-fields-requires : tie.Need-put_fields-requires
 put-fields-requires c κs = search rules
 
-same_length : tie.Need-same-length
+same_length : tie.Need-shape_of-out
 same_length c = search rules
 
 returns : tie.Need-returns
 unfolding sheet_of
 returns c =
-    let fields = c.before.before in
-    let feed = fields.before.before.before.before in
-    let mark = feed.before.before.before.before in
-    let word = mark.before.before.before.before in
-    join (join (join word.put_bytes.ensures mark.put_byte.ensures (omega arith)) feed.put-byte2.ensures (omega arith)) fields.put-fields.ensures (omega arith)
+    let fields = c in
+    let feed = fields in
+    let mark = feed in
+    let word = mark in
+    join (join (join word.put_bytes-word.ensures mark.put_byte-end.ensures (omega arith)) feed.put_byte-first.ensures (omega arith)) fields.put_fields.ensures (omega arith)
 
-pub put-sheet-spec : {M : Type 1} → statement M
-put-sheet-spec =
+pub put_sheet_spec : {M : Type 1} → statement M
+put_sheet_spec =
     tie.close
     (tie.spec
-    slice-aggregate-put-bytes
     put-bytes-requires
     put-byte-requires
     put-byte-requires-2

@@ -12,73 +12,73 @@ use Rattle.sheets.proofs.Fields.{over, size_from, size_field, size_none}
 use Rattle.sheets.proofs.shown.sheet_size.Statement.{statement}
 use Rattle.sheets.proofs.shown.sheet_size.Tie as tie
 
-abbrev invariant-loop : tie.invariant-loop
-invariant-loop book size₀ at₀ size at = (at ≤ length book) × (size ≤ at) × (size + size_from book at ≡ size_from book 0)
+abbrev invariant-loop-tag : tie.invariant-loop-tag
+invariant-loop-tag book size₀ at₀ size at = (at ≤ length book) × (size ≤ at) × (size + size_from book at ≡ size_from book 0)
 
-abbrev decreases-loop : tie.decreases-loop
-decreases-loop book size₀ at₀ size at = length book - at
+abbrev decreases-loop-tag : tie.decreases-loop-tag
+decreases-loop-tag book size₀ at₀ size at = length book - at
 
-module _ (c : tie.After-known-told invariant-loop decreases-loop) where
-  abbrev at-loop : tie.At-loop invariant-loop decreases-loop
-  at-loop = c.before.before.before.before
+module _ (c : tie.In-Field invariant-loop-tag decreases-loop-tag) where
+  abbrev at-loop : tie.At-loop-tag invariant-loop-tag decreases-loop-tag
+  at-loop = c.before.before
 
   abbrev book : List ℕ
-  book = at-loop.before.before.args.book.now
+  book = at-loop.args.book.now
 
-  there : Stands book at-loop.loop.at c.before.tag.given.0.0 c.before.tag.given.0.1.0 c.before.tag.given.0.1.1.0
-  there = stands book at-loop.loop.at _ _ _ (sym c.before.before.before.field_at.ensures ∙ c.before.tag.given.1)
+  there : Stands book at-loop.loop-tag.at c.in-Field.tag c.in-Field.start c.in-Field.end
+  there = stands book at-loop.loop-tag.at _ _ _ (sym c.field_at.ensures ∙ c.in-Field.is)
 
-loop-holds : tie.Need-loop-init invariant-loop decreases-loop
+loop-holds : tie.Need-loop-tag-init invariant-loop-tag decreases-loop-tag
 loop-holds c = (omega arith, omega arith, omega arith)
 
-field-at-requires : tie.Need-field-at-requires invariant-loop decreases-loop
+field-at-requires : tie.Need-field_at-requires invariant-loop-tag decreases-loop-tag
 field-at-requires c κs = search rules
 
-enum-known-tag : tie.Need-enum-known-tag invariant-loop decreases-loop
+enum-known-tag : tie.Need-enum_known-tag invariant-loop-tag decreases-loop-tag
 enum-known-tag c = search rules
 
-enum_told : tie.Need-enum-told invariant-loop decreases-loop
+enum_told : tie.Need-enum_told-1 invariant-loop-tag decreases-loop-tag
 enum_told c = search rules
 
-returns : tie.Need-returns invariant-loop decreases-loop
+returns : tie.Need-returns-in_default invariant-loop-tag decreases-loop-tag
 returns c =
-    let f = c.before.before in
-    let l = f.before in
-    let s = l.before.before.args.book.now in
-    omega (arith, l.loop.invariant.2, size_none s l.loop.at (over s l.loop.at (sym f.field_at.ensures ∙ c.enum_told.given.1)))
+    let f = c in
+    let l = f in
+    let s = l.args.book.now in
+    omega (arith, l.loop-tag.invariant.2, size_none s l.loop-tag.at (over s l.loop-tag.at (sym f.field_at.ensures ∙ c.in_default.is)))
 
-sub-shown-size : tie.Need-overflow-sub-shown-size invariant-loop decreases-loop
+sub-shown-size : tie.Need-overflow_sub-end invariant-loop-tag decreases-loop-tag
 sub-shown-size c = let t = there c in omega (arith, t.order)
 
-shown-size-requires : tie.Need-shown-size-requires invariant-loop decreases-loop
+shown-size-requires : tie.Need-shown_size-size-requires invariant-loop-tag decreases-loop-tag
 shown-size-requires c κs = let t = there c in omega (arith, t.order, t.inside, t.begins)
 
-abbrev before-size : tie.After-shown-size invariant-loop decreases-loop → tie.After-known-told invariant-loop decreases-loop
+abbrev before-size : tie.After-shown_size-size invariant-loop-tag decreases-loop-tag → tie.In-Field invariant-loop-tag decreases-loop-tag
 before-size c = c.before
 
-abbrev tag_of : tie.After-shown-size invariant-loop decreases-loop → ℕ
-tag_of c = (before-size c).before.tag.given.0.0
+abbrev tag_of : tie.After-shown_size-size invariant-loop-tag decreases-loop-tag → ℕ
+tag_of c = (before-size c).in-Field.tag
 
-abbrev size_of : tie.After-shown-size invariant-loop decreases-loop → ℕ
-size_of c = (before-size c).before.tag.given.0.1.1.0 - (before-size c).before.tag.given.0.1.0
+abbrev size_of : tie.After-shown_size-size invariant-loop-tag decreases-loop-tag → ℕ
+size_of c = (before-size c).in-Field.end - (before-size c).in-Field.start
 
-add-size : tie.Need-overflow-add-size invariant-loop decreases-loop
-add-size c = let t = there (before-size c) in omega (arith, t.order, t.inside, t.begins, c.shown-size.ensures, size_most (tag_of c) (size_of c))
+add-size : tie.Need-overflow_add-size invariant-loop-tag decreases-loop-tag
+add-size c = let t = there (before-size c) in omega (arith, t.order, t.inside, t.begins, c.shown_size-size.ensures, size_most (tag_of c) (size_of c))
 
-loop-less : tie.Need-loop-smaller invariant-loop decreases-loop
+loop-less : tie.Need-loop-tag-smaller invariant-loop-tag decreases-loop-tag
 loop-less c = let t = there (before-size c) in omega (arith, t.order, t.inside, t.begins)
 
-loop-again : tie.Need-loop-preserved invariant-loop decreases-loop
+loop-again : tie.Need-loop-tag-preserved invariant-loop-tag decreases-loop-tag
 loop-again c =
     let t = there (before-size c) in
-    (t.inside, omega (arith, t.order, t.begins, c.shown-size.ensures, size_most (tag_of c) (size_of c)), omega (arith, c.shown-size.ensures, size_field t, (at-loop (before-size c)).loop.inv.2))
+    (t.inside, omega (arith, t.order, t.begins, c.shown_size-size.ensures, size_most (tag_of c) (size_of c)), omega (arith, c.shown_size-size.ensures, size_field t, (at-loop (before-size c)).loop-tag.invariant.2))
 
-pub sheet-size-spec : {M : Type 1} → statement M
-sheet-size-spec =
+pub sheet_size_spec : {M : Type 1} → statement M
+sheet_size_spec =
     tie.close
     (tie.spec
-    invariant-loop
-    decreases-loop
+    invariant-loop-tag
+    decreases-loop-tag
     loop-holds
     field-at-requires
     enum-known-tag

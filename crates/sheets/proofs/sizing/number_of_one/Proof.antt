@@ -10,37 +10,37 @@ use Rattle.sheets.proofs.sizing.number_of_one.Tie as tie
 carried-requires : tie.Need-carried-requires
 carried-requires c κs = search rules
 
-returns : tie.Need-returns
+returns : tie.Need-returns-then-carried
 returns c =
-    let k = c.before in
-    let a = k.before.before.args in
-    one_carried a.mark a.tag a.value.now (sym k.carried.ensures ∙ c.if1.true)
+    let k = c in
+    let a = k.args in
+    one_carried a.mark a.tag a.value.now (sym k.carried.ensures ∙ c.if-carried.true)
 
 figured-requires : tie.Need-figured-requires
 figured-requires c κs = search rules
 
-returns-2 : tie.Need-returns-2
+returns-2 : tie.Need-returns-then-not-figured
 returns-2 c =
-    let f = c.before in
-    let e = f.before in
-    let k = e.before in
-    let a = k.before.before.args in
-    one_other a.mark a.tag a.value.now (sym k.carried.ensures ∙ e.if1.false) (sym f.figured.ensures ∙ not-true _ c.if2.true)
+    let f = c in
+    let e = f in
+    let k = e in
+    let a = k.args in
+    one_other a.mark a.tag a.value.now (sym k.carried.ensures ∙ e.if-carried.false) (sym f.figured.ensures ∙ c.if-not-figured.true)
 
-stray-number-requires : tie.Need-stray-number-requires
+stray-number-requires : tie.Need-stray_number-requires
 stray-number-requires c κs = search rules
 
-returns-3 : tie.Need-returns-3
+returns-3 : tie.Need-returns
 returns-3 c =
-    let g = c.before in
-    let f = g.before in
-    let e = f.before in
-    let k = e.before in
-    let a = k.before.before.args in
-    c.stray-number.ensures
-    ∙ one_figured a.mark a.tag a.value.now (sym k.carried.ensures ∙ e.if1.false) (sym f.figured.ensures ∙ not-false _ g.if2.false)
+    let g = c in
+    let f = g in
+    let e = f in
+    let k = e in
+    let a = k.args in
+    c.stray_number.ensures
+    ∙ one_figured a.mark a.tag a.value.now (sym k.carried.ensures ∙ e.if-carried.false) (sym f.figured.ensures ∙ g.if-not-figured.false)
 
-pub number-of-one-spec : {M : Type 1} → statement M
-number-of-one-spec =
+pub number_of_one_spec : {M : Type 1} → statement M
+number_of_one_spec =
     tie.close
     (tie.spec carried-requires returns figured-requires returns-2 stray-number-requires returns-3)

@@ -10,92 +10,92 @@ use Rattle.sheets.proofs.sizing.size_line.Statement.{statement}
 use Rattle.sheets.proofs.sizing.size_line.Tie as tie
 
 -- the form that was found
-one : (c : tie.After-tag) → let a = c.before.before.before.before.args in HasOne a.sheet.now a.at c.tag.given.0.0 c.tag.given.0.1.0
-one c = let a = c.before.before.before.before.args in subst (Shows a.sheet.now a.at) c.tag.given.1 c.before.before.form-at.ensures
+one : (c : tie.In-One) → let a = c.args in HasOne a.sheet.now a.at c.in-One.tag c.in-One.end
+one c = let a = c.args in subst (Shows a.sheet.now a.at) c.in-One.is c.form_at.ensures
 
-four : (c : tie.After-tag2) → let a = c.before.before.before.before.args in let g = c.tag2.given.0 in
-    HasFour a.sheet.now a.at g.0 g.1.0 g.1.1.0 g.1.1.1.0 g.1.1.1.1.0
-four c = let a = c.before.before.before.before.args in subst (Shows a.sheet.now a.at) c.tag2.given.1 c.before.before.form-at.ensures
+four : (c : tie.In-Four) → let a = c.args in let g = c.in-Four in
+    HasFour a.sheet.now a.at g.tag g.first g.second g.third g.end
+four c = let a = c.args in subst (Shows a.sheet.now a.at) c.in-Four.is c.form_at.ensures
 
-form-at-requires : tie.Need-form-at-requires
+form-at-requires : tie.Need-form_at-requires
 form-at-requires c κs = search rules
 
-enum-known-tag : tie.Need-enum-known-tag
+enum-known-tag : tie.Need-enum_known-tag
 enum-known-tag c = search rules
 
-add-from : tie.Need-overflow-add-from
+add-from : tie.Need-overflow_add-from
 add-from c = search rules
 
-sub-number-of-one : tie.Need-overflow-sub-number-of-one
-sub-number-of-one c = let h = one c.before in search rules
+sub-number-of-one : tie.Need-slice_bounds-number_of_one-count
+sub-number-of-one c = let h = one c in search rules
 
-part-number-of-one-start : tie.Need-slice-bounds-number-of-one-start
-part-number-of-one-start c = let h = one c.before in search rules
+part-number-of-one-start : tie.Need-slice_bounds-number_of_one-start
+part-number-of-one-start c = let h = one c in search rules
 
-part-number-of-one-end : tie.Need-slice-bounds-number-of-one-end
-part-number-of-one-end c = let h = one c.before in search rules
+part-number-of-one-end : tie.Need-slice_bounds-number_of_one-end
+part-number-of-one-end c = let h = one c in search rules
 
-number-of-one-requires : tie.Need-number-of-one-requires
+number-of-one-requires : tie.Need-number_of_one-requires
 number-of-one-requires c κs = search rules
 
-add-taken : tie.Need-overflow-add-taken
-add-taken c = let h = one c.before.before.before in search rules
+add-taken : tie.Need-overflow_add-end
+add-taken c = let h = one c.before.before in search rules
 
-add-taken-2 : tie.Need-overflow-add-taken-2
-add-taken-2 c = let h = one c.before.before.before in search rules
+add-taken-2 : tie.Need-overflow_add-end-in-One
+add-taken-2 c = let h = one c.before.before in search rules
 
-sub-taken : tie.Need-overflow-sub-taken
-sub-taken c = let h = one c.before.before.before in search rules
+sub-taken : tie.Need-overflow_sub-end
+sub-taken c = let h = one c.before.before in search rules
 
 taken-requires : tie.Need-taken-requires
 taken-requires c κs = search rules
 
-enum-known-tag-2 : tie.Need-enum-known-tag-2
+enum-known-tag-2 : tie.Need-enum_known-tag-in-Four-1
 enum-known-tag-2 c = search rules
 
-number-of-four-requires : tie.Need-number-of-four-requires
-number-of-four-requires c κs = four c.before
+number-of-four-requires : tie.Need-number_of_four-requires
+number-of-four-requires c κs = four c
 
-add-taken-3 : tie.Need-overflow-add-taken-3
-add-taken-3 c = let h = four c.before.before in search rules
+add-taken-3 : tie.Need-overflow_add-end-in-Four
+add-taken-3 c = let h = four c.before in search rules
 
-sub-size-of-four : tie.Need-overflow-sub-size-of-four
-sub-size-of-four c = let h = four c.before.before in search rules
+sub-size-of-four : tie.Need-overflow_sub-end-in-Four
+sub-size-of-four c = let h = four c.before in search rules
 
-size-of-four-requires : tie.Need-size-of-four-requires
-size-of-four-requires c κs = let h = four c.before.before in omega arith
+size-of-four-requires : tie.Need-size_of_four-requires
+size-of-four-requires c κs = let h = four c.before in omega arith
 
-taken-requires-2 : tie.Need-taken-requires-2
+taken-requires-2 : tie.Need-taken-requires-in-Four
 taken-requires-2 c κs = search rules
 
-enum_told : tie.Need-enum-told
+enum_told : tie.Need-enum_told-1
 enum_told c = search rules
 
-returns : tie.Need-returns
+returns : tie.Need-returns-in-One
 returns c =
-    let n = c.before in
-    let k = n.before.before.before in
-    let a = k.before.before.before.before.args in
+    let n = c in
+    let k = n in
+    let a = k.args in
     subst (Sizes a.mark a.sheet.now a.at) (sym c.taken.ensures)
-    (sized_one a.mark a.sheet.now a.at _ _ (one k) n.number-of-one.result n.number-of-one.ensures)
+    (sized_one a.mark a.sheet.now a.at _ _ (one c.before.before.before) n.number_of_one.result n.number_of_one.ensures)
 
-returns-2 : tie.Need-returns-2
+returns-2 : tie.Need-returns-in-Four
 returns-2 c =
-    let m = c.before in
-    let n = m.before in
-    let k = n.before.before in
-    let a = k.before.before.before.before.args in
-    subst (Sizes a.mark a.sheet.now a.at) (sym c.taken2.ensures)
-    (sized_four a.mark a.sheet.now a.at _ _ _ _ _ (four k) n.number-of-four.result m.size-of-four.result n.number-of-four.ensures
-    m.size-of-four.ensures)
+    let m = c in
+    let n = m in
+    let k = n in
+    let a = k.args in
+    subst (Sizes a.mark a.sheet.now a.at) (sym c.taken-in-Four.ensures)
+    (sized_four a.mark a.sheet.now a.at _ _ _ _ _ (four c.before.before.before) n.number_of_four.result m.size_of_four.result n.number_of_four.ensures
+    m.size_of_four.ensures)
 
-returns-3 : tie.Need-returns-3
+returns-3 : tie.Need-returns-in-Bad
 returns-3 c =
-    let a = c.before.before.before.before.args in
-    subst (Shows a.sheet.now a.at) c.enum_told.given.1 c.before.before.form-at.ensures a.mark
+    let a = c.args in
+    subst (Shows a.sheet.now a.at) c.in-Bad.is c.form_at.ensures a.mark
 
-pub size-line-spec : {M : Type 1} → statement M
-size-line-spec =
+pub size_line_spec : {M : Type 1} → statement M
+size_line_spec =
     tie.close
     (tie.spec
     form-at-requires

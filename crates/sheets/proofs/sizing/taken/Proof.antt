@@ -4,11 +4,11 @@ use borrow.Author.Tests.{eq-eqb, ne_eqb}
 use Rattle.sheets.proofs.sizing.taken.Statement.{statement}
 use Rattle.sheets.proofs.sizing.taken.Tie as tie
 
-returns : tie.Need-returns
-returns c = simp (eq-eqb _ _ c.if1.true)
+returns : tie.Need-returns-then-number-eq0
+returns c = simp (eq-eqb _ _ c.if-number-eq0.true)
 
-returns-2 : tie.Need-returns-2
-returns-2 c = simp (ne_eqb _ _ c.if1.false)
+returns-2 : tie.Need-returns-else-number-eq0
+returns-2 c = simp (ne_eqb _ _ c.if-number-eq0.false)
 
-pub taken-spec : {M : Type 1} → statement M
-taken-spec = tie.close (tie.spec returns returns-2)
+pub taken_spec : {M : Type 1} → statement M
+taken_spec = tie.close (tie.spec returns returns-2)

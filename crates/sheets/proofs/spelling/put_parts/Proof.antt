@@ -14,70 +14,70 @@ use Rattle.sheets.specs.Mark.{respelled, in_book}
 use Rattle.sheets.proofs.spelling.put_parts.Statement.{statement}
 use Rattle.sheets.proofs.spelling.put_parts.Tie as tie
 
-abbrev invariant-loop : tie.invariant-loop
-invariant-loop out₀ at s mark i₀ out i =
+abbrev invariant-loop-i : tie.invariant-loop-i
+invariant-loop-i out₀ at s mark i₀ out i =
     (i ≤ length s) × (length out ≡ length out₀) × (written (at + i) (respelled 59 32 (in_book mark (drop i s))) out ≡ written at (respelled 59 32 (in_book mark s)) out₀)
 
-abbrev decreases-loop : tie.decreases-loop
-decreases-loop out₀ at s mark i₀ out i = length s - i
+abbrev decreases-loop-i : tie.decreases-loop-i
+decreases-loop-i out₀ at s mark i₀ out i = length s - i
 
-loop-holds : tie.Need-loop-init invariant-loop decreases-loop
+loop-holds : tie.Need-loop-i-init invariant-loop-i decreases-loop-i
 loop-holds c = (omega arith, refl, simp add-zero)
 
-shared-slice-read-respelt : tie.Need-shared-slice-read-respelt invariant-loop decreases-loop
+shared-slice-read-respelt : tie.Need-bounds-s-i invariant-loop-i decreases-loop-i
 shared-slice-read-respelt c = omega arith
 
-respelt-requires : tie.Need-respelt-requires invariant-loop decreases-loop
+respelt-requires : tie.Need-respelt-pointed-requires invariant-loop-i decreases-loop-i
 respelt-requires c κs = search rules
 
-respelt-requires-2 : tie.Need-respelt-requires-2 invariant-loop decreases-loop
+respelt-requires-2 : tie.Need-respelt-requires invariant-loop-i decreases-loop-i
 respelt-requires-2 c κs = search rules
 
-add-out : tie.Need-overflow-add-out invariant-loop decreases-loop
+add-out : tie.Need-overflow_add-out invariant-loop-i decreases-loop-i
 add-out c = omega arith
 
-slice-write-out : tie.Need-slice-write-out invariant-loop decreases-loop
+slice-write-out : tie.Need-bounds-out-at invariant-loop-i decreases-loop-i
 slice-write-out c = omega arith
 
-add-i : tie.Need-overflow-add-i invariant-loop decreases-loop
+add-i : tie.Need-overflow_add-i invariant-loop-i decreases-loop-i
 add-i c = omega arith
 
-loop-less : tie.Need-loop-smaller invariant-loop decreases-loop
+loop-less : tie.Need-loop-i-smaller invariant-loop-i decreases-loop-i
 loop-less c = omega arith
 
-loop-again : tie.Need-loop-preserved invariant-loop decreases-loop
+loop-again : tie.Need-loop-i-preserved invariant-loop-i decreases-loop-i
 loop-again c =
-    let p = c.before in
-    let l = p.before.before.before in
-    let a = l.before.before.before.args in
+    let p = c in
+    let l = p in
+    let a = l.args in
     let s = a.s.now in
-    let i = l.loop.i in
+    let i = l.loop-i.i in
     let rest = respelled 59 32 (in_book a.mark (drop (i + 1) s)) in
-    let stored = written_first (a.at + i) c.respelt2.result rest l.loop.out (omega arith) in
-    let first : c.respelt2.result ∷ rest ≡ respelled 59 32 (in_book a.mark (drop i s)) =
-    rw (c.respelt2.ensures, p.respelt.ensures, add-one, drop-cons s i 0 (omega arith)) in
-    (omega arith, simp length-set (omega arith), rw (← add_assoc a.at i 1) (stored ∙ rw first l.loop.invariant.2))
+    let stored = written_first (a.at + i) c.respelt.result rest l.loop-i.out (omega arith) in
+    let first : c.respelt.result ∷ rest ≡ respelled 59 32 (in_book a.mark (drop i s)) =
+    rw (c.respelt.ensures, p.respelt-pointed.ensures, add-one, drop-cons s i 0 (omega arith)) in
+    (omega arith, simp length-set (omega arith), rw (← add_assoc a.at i 1) (stored ∙ rw first l.loop-i.invariant.2))
 
-add-result : tie.Need-overflow-add-result invariant-loop decreases-loop
+add-result : tie.Need-overflow_add-result invariant-loop-i decreases-loop-i
 add-result c = omega arith
 
-same_length : tie.Need-same-length invariant-loop decreases-loop
+same_length : tie.Need-shape_of-out invariant-loop-i decreases-loop-i
 same_length c = omega arith
 
-returns : tie.Need-returns invariant-loop decreases-loop
+returns : tie.Need-returns invariant-loop-i decreases-loop-i
 returns c =
-    let s = c.before.before.before.before.args.s.now in
+    let s = c.args.s.now in
     record {
-      whole = simp (drop_of_length-le s c.loop-test.false, written_nothing) at c.before.loop.invariant.2;
+      whole = simp (drop_of_length-le s c.loop-i-test.false, written_nothing) at c.loop-i.invariant.2;
       next = simp length-map (omega arith);
     }
 
-pub put-parts-spec : {M : Type 1} → statement M
-put-parts-spec =
+pub put_parts_spec : {M : Type 1} → statement M
+put_parts_spec =
     tie.close
     (tie.spec
-    invariant-loop
-    decreases-loop
+    invariant-loop-i
+    decreases-loop-i
     loop-holds
     shared-slice-read-respelt
     respelt-requires
