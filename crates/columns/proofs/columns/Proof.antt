@@ -24,17 +24,17 @@ begin r = r.before.before.before.before.before.before.before.before.before.befor
 wide : (r : tie.After-read_roll-roll) → let l = r.read_roll-roll.new in Room l.keys l.starts l.standings l.stakes
 wide r = search rules
 
-accepted : (e : tie.Else-refused-ne-ACCEPTED) → let r = rolled e.before in let l = r.read_roll.new.1 in
+accepted : (e : tie.Else-refused-ne-ACCEPTED) → let r = rolled e.before in let l = r.read_roll-roll.new in
     Accepts (begin r).args.book.now l.keys l.starts l.standings l.stakes r.read_roll-roll.result r.read_roll-roll.ensures.rolled
-accepted e = let r = rolled e.before in let l = r.read_roll.new.1 in
+accepted e = let r = rolled e.before in let l = r.read_roll-roll.new in
     accepts (begin r).args.book.now l.keys l.starts l.standings l.stakes r.read_roll-roll.result r.read_roll-roll.ensures.rolled e.if-refused-ne-ACCEPTED.false
 
 abbrev left : tie.After-close-closed → tie.Else-refused-ne-ACCEPTED
 left d = d.before.before.before.before
 
-gone : (d : tie.After-close-closed) → let r = rolled (left d).before in let l = r.read_roll.new.1 in
+gone : (d : tie.After-close-closed) → let r = rolled (left d).before in let l = r.read_roll-roll.new in
     Goes (begin r).args.book.now l.standings l.stakes r.read_roll-roll.result.count d.close-closed.result
-gone d = let r = rolled (left d).before in let l = r.read_roll.new.1 in let a = accepted (left d) in
+gone d = let r = rolled (left d).before in let l = r.read_roll-roll.new in let a = accepted (left d) in
     goes a.accepted (shows (begin r).args.book.now l.keys l.starts l.standings l.stakes r.read_roll-roll.result r.read_roll-roll.ensures.rolled a (wide r) d.close-closed.result d.close-closed.ensures)
 
 -- the answers to all runs are the same ones
@@ -59,7 +59,7 @@ read-roll-requires c κs = search rules
 returns : tie.Need-returns-then-refused-ne-ACCEPTED
 returns c =
     let r = rolled c.before in
-    let l = r.read_roll.new.1 in
+    let l = r.read_roll-roll.new in
     same (stops (begin r).args.book.now (refuses (begin r).args.book.now l.keys l.starts l.standings l.stakes r.read_roll-roll.result r.read_roll-roll.ensures.rolled c.if-refused-ne-ACCEPTED.true) _) (refused_so _ _ _)
 
 slice-aggregate-close : tie.Need-slice_bounds-close-end
@@ -75,7 +75,7 @@ close-requires : tie.Need-close-closed-requires
 close-requires c κs =
     let e = c in
     let r = rolled c.before.before.before.before in
-    let l = r.read_roll.new.1 in
+    let l = r.read_roll-roll.new in
     steady (begin r).args.book.now l.keys l.starts l.standings l.stakes r.read_roll-roll.result r.read_roll-roll.ensures.rolled (accepted c.before.before.before) (wide r)
 
 slice-aggregate-show : tie.Need-slice_bounds-show-end
