@@ -17,7 +17,9 @@ use Rattle.cases.specs.Case.{Holds, so}
 use Rattle.cutback.specs.Lines.{codes_in, codes_ahead}
 use Rattle.cutback.specs.Judge.{judge, answer_of}
 use Rattle.cutback.proofs as cutback
+use Rattle.cutback.specs.contracts as cutback_contracts
 use Rattle.frundavel.proofs as frundavel
+use Rattle.frundavel.specs.contracts as frundavel_contracts
 
 -- what a call is handed, with the codes as they are read
 pub record Handed : Type 0 where
@@ -54,7 +56,7 @@ pub record Call : Type 0 where
   pub contract : Answered (right_for handed entry) answer entry exit
 
 -- one of the call for C, and of both functions of the library, by their contracts as the kit publishes them
-pub of_frundavel : (κs : Lfts 6) (a : Args frundavel.frundavel_cutback.signature κs) (r : Answer) (s : AtExit frundavel.frundavel_cutback.ended κs) →
+pub of_frundavel : (κs : Lfts 6) (a : Args frundavel_contracts.frundavel_cutback.signature κs) (r : Answer) (s : AtExit frundavel_contracts.frundavel_cutback.ended κs) →
     frundavel.frundavel_cutback.Reads.Learnt κs a r s → Call
 of_frundavel κs a r s h = record {
   handed = record { kind = a.0.now; metal = a.1.0.now; grams = a.1.1.0; codes = codes_in a.1.1.1.1.0.now a.1.1.1.0.now; lots = a.1.1.1.1.1.0.now };
@@ -64,10 +66,10 @@ of_frundavel κs a r s h = record {
   contract = h;
 }
 
-pub of_cut : (κs : Lfts 6) (a : Args cutback.cut.signature κs) (r : Answer) (s : AtExit cutback.cut.ended κs) → cutback.cut.Reads.Learnt κs a r s → Call
+pub of_cut : (κs : Lfts 6) (a : Args cutback_contracts.cut.signature κs) (r : Answer) (s : AtExit cutback_contracts.cut.ended κs) → cutback.cut.Reads.Learnt κs a r s → Call
 of_cut κs a r s h = of_frundavel κs a r s h
 
-pub of_cut_lines : (κs : Lfts 5) (a : Args cutback.cut_lines.signature κs) (r : Answer) (s : AtExit cutback.cut_lines.ended κs) → cutback.cut_lines.Reads.Learnt κs a r s → Call
+pub of_cut_lines : (κs : Lfts 5) (a : Args cutback_contracts.cut_lines.signature κs) (r : Answer) (s : AtExit cutback_contracts.cut_lines.ended κs) → cutback.cut_lines.Reads.Learnt κs a r s → Call
 of_cut_lines κs a r s h = record {
   handed = record { kind = a.0.now; metal = a.1.0.now; grams = a.1.1.0; codes = codes_ahead a.1.1.1.0.now; lots = a.1.1.1.1.0.now };
   entry = a.1.1.1.1.1.0.now;
@@ -111,6 +113,7 @@ pub data NoneAllowed : List Tried → Type 0 where
 
 not_both : {n : String} (b : Bool) → b ≡ true → Holds n (not b) → ⊥
 not_both false e so = absurd (omega (arith, ap one_if e))
+not_both {n = n} true e x = elim x [ ]
 
 pub none_given : (ts : List Tried) → NoneAllowed ts → Contradicted ts
 none_given [] done = tt

@@ -99,6 +99,7 @@ none_before a (s ∷ m) h = rw (not_back a s h.0) (omega (arith, none_before a m
 lead_mem : (a s : Seat) (m : List Seat) → Leads a m → Memᴰ s m → goes_before a s ≡ true
 lead_mem a s (b ∷ m) h (Memᴰ.head e) = ap (goes_before a) e ∙ h.0
 lead_mem a s (b ∷ m) h (Memᴰ.tail k) = lead_mem a s m h.1 k
+lead_mem a s [] h k = elim k [ ]
 
 whole : (m : List Seat) → Sorted m → (e : ℕ) → sum_of (λ s. min s.lots (e - lots_before m s)) m ≡ min e (sum_of lots_of m)
 unfolding lots_before
@@ -140,3 +141,4 @@ sum_gap f g (b ∷ l) h t (Memᴰ.head e) = omega (arith, ap f e, ap g e, mono f
     mono f g [] h = omega arith
     mono f g (b ∷ l) h = omega (arith, h b, mono f g l h)
 sum_gap f g (b ∷ l) h t (Memᴰ.tail k) = omega (arith, h b, sum_gap f g l h t k)
+sum_gap f g [] h t k = elim k [ ]

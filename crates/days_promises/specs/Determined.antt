@@ -9,11 +9,11 @@ use denote.Triple.Clauses.{Ended, Lasts, AtExit, at_exit}
 use Rattle.rules.specs.Answer.{Answer as Answer01}
 use Rattle.answers.specs.declared.Answer.{Answer}
 use Rattle.answers.specs.Answered.{Answered}
-use Rattle.days.specs.contracts as in_days
+use Rattle.days.specs.contracts as days_contracts
 use Rattle.days.proofs as days
-use Rattle.watch.specs.contracts as in_watch
+use Rattle.watch.specs.contracts as watch_contracts
 use Rattle.watch.proofs as watch
-use Rattle.locks.specs.contracts as in_locks
+use Rattle.locks.specs.contracts as locks_contracts
 use Rattle.locks.proofs as locks
 
 abbrev pub Contract : Ended → Type 1
@@ -29,13 +29,13 @@ abbrev pub AsksNothing : (T : Ended) → ((κs : Lfts T.signature.lifetimes) →
 AsksNothing T Asked = (κs : Lfts T.signature.lifetimes) (a : Args T.signature κs) → Asked κs a
 
 -- days
-pub count_feeds : Determined in_days.count_feeds.ended days.count_feeds.Reads.Learnt
+pub count_feeds : Determined days_contracts.count_feeds.ended days.count_feeds.Reads.Learnt
 count_feeds κs a r q s t e f = (e.0 ∙ sym f.0, refl)
 
-pub next_day : Determined in_days.next_day.ended days.next_day.Reads.Learnt
+pub next_day : Determined days_contracts.next_day.ended days.next_day.Reads.Learnt
 next_day κs a r q s t e f = (e ∙ sym f, refl)
 
-pub judge : Determined in_days.judge.ended days.judge.Reads.Learnt
+pub judge : Determined days_contracts.judge.ended days.judge.Reads.Learnt
 judge κs a r q s t e f = (e ∙ sym f, refl)
 
 -- watch
@@ -45,37 +45,37 @@ same r q n p l i = record { number = n i; place = p i; length = l i }
 answered : {a : Answer01} {r q : Answer} {entry x y : List ℕ} → Answered a r entry x → Answered a q entry y → (r ≡ q) × (x ≡ y)
 answered {a} {r} {q} e f = (same r q (e.number ∙ sym f.number) (e.place ∙ sym f.place) (e.length ∙ sym f.length), e.buffer ∙ sym f.buffer)
 
-pub moves_in : Determined in_watch.moves_in.ended watch.moves_in.Reads.Learnt
+pub moves_in : Determined watch_contracts.moves_in.ended watch.moves_in.Reads.Learnt
 moves_in κs a r q s t e f = ((answered e f).0, ap (λ (l : List ℕ). (tt, (tt, (l, tt)))) (answered e f).1)
 
-pub moves : Determined in_watch.moves.ended watch.moves.Reads.Learnt
+pub moves : Determined watch_contracts.moves.ended watch.moves.Reads.Learnt
 moves κs a r q s t e f = ((answered e f).0, ap (λ (l : List ℕ). (tt, (l, tt))) (answered e f).1)
 
 -- locks
-pub ladder_in : Determined in_locks.ladder_in.ended locks.ladder_in.Reads.Learnt
+pub ladder_in : Determined locks_contracts.ladder_in.ended locks.ladder_in.Reads.Learnt
 ladder_in κs a r q s t e f = ((answered e f).0, ap (λ (l : List ℕ). (tt, (tt, (l, tt)))) (answered e f).1)
 
-pub ladder : Determined in_locks.ladder.ended locks.ladder.Reads.Learnt
+pub ladder : Determined locks_contracts.ladder.ended locks.ladder.Reads.Learnt
 ladder κs a r q s t e f = ((answered e f).0, ap (λ (l : List ℕ). (tt, (l, tt))) (answered e f).1)
 
-pub step_of : Determined in_locks.step_of.ended locks.step_of.Reads.Learnt
+pub step_of : Determined locks_contracts.step_of.ended locks.step_of.Reads.Learnt
 step_of κs a r q s t e f = (e ∙ sym f, refl)
 
 -- whatever the bytes
-pub asks_count_feeds : AsksNothing in_days.count_feeds.ended days.count_feeds.Reads.Asked
+pub asks_count_feeds : AsksNothing days_contracts.count_feeds.ended days.count_feeds.Reads.Asked
 asks_count_feeds κs a = tt
 
-pub asks_next_day : AsksNothing in_days.next_day.ended days.next_day.Reads.Asked
+pub asks_next_day : AsksNothing days_contracts.next_day.ended days.next_day.Reads.Asked
 asks_next_day κs a = tt
 
-pub asks_judge : AsksNothing in_days.judge.ended days.judge.Reads.Asked
+pub asks_judge : AsksNothing days_contracts.judge.ended days.judge.Reads.Asked
 asks_judge κs a = tt
 
-pub asks_moves : AsksNothing in_watch.moves.ended watch.moves.Reads.Asked
+pub asks_moves : AsksNothing watch_contracts.moves.ended watch.moves.Reads.Asked
 asks_moves κs a = tt
 
-pub asks_ladder : AsksNothing in_locks.ladder.ended locks.ladder.Reads.Asked
+pub asks_ladder : AsksNothing locks_contracts.ladder.ended locks.ladder.Reads.Asked
 asks_ladder κs a = tt
 
-pub asks_step_of : AsksNothing in_locks.step_of.ended locks.step_of.Reads.Asked
+pub asks_step_of : AsksNothing locks_contracts.step_of.ended locks.step_of.Reads.Asked
 asks_step_of κs a = tt

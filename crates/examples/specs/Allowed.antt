@@ -64,6 +64,7 @@ pub data NoneAllowed : List Tried → Type 0 where
 
 not_both : {n : String} (b : Bool) → b ≡ true → Holds n (not b) → ⊥
 not_both false e so = absurd (omega (arith, ap one_if e))
+not_both {n = n} true e x'' = elim x'' [ ]
 
 pub none_given : (ts : List Tried) → NoneAllowed ts → Contradicted ts
 none_given [] done = tt

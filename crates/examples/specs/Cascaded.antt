@@ -13,13 +13,14 @@ use Rattle.cascade.specs.declared.Cascade.{Cascade}
 use Rattle.cascade.specs.Columns.{lines_of}
 use Rattle.cascade.specs.State.{after_tier}
 use Rattle.cascade.proofs as cascade
+use Rattle.cascade.specs.contracts as cascade_contracts
 
 -- nothing is offset yet
 abbrev first : Cascade
 first = record { offset = replicate most_customers 0; total = 0 }
 
 -- W3, P2, W1, P1 and W2: their keys are in order as their codes are
-module _ (κs : Lfts 3) (a : Args cascade.Cascade.run.signature κs) (r : Cascade) (s : AtExit cascade.Cascade.run.ended κs) (h : cascade.Cascade.run.Reads.Learnt κs a r s)
+module _ (κs : Lfts 3) (a : Args cascade_contracts.Cascade.run.signature κs) (r : Cascade) (s : AtExit cascade_contracts.Cascade.run.ended κs) (h : cascade.Cascade.run.Reads.Learnt κs a r s)
     (state : a.0 ≡ first) (keys : a.1.0.now ≡ 5 ∷ 2 ∷ 3 ∷ 1 ∷ 4 ∷ []) (standings : a.1.1.0.now ≡ 3 ∷ 0 ∷ 1 ∷ 0 ∷ 2 ∷ [])
     (stakes : a.1.1.1.0.now ≡ 1 ∷ 4 ∷ 3 ∷ 6 ∷ 5 ∷ []) (count : a.1.1.1.1.0 ≡ 5) where
   pub cascaded : (take 5 r.offset ≡ 1 ∷ 3 ∷ 3 ∷ 6 ∷ 5 ∷ []) × (r.total ≡ 9)
@@ -45,7 +46,7 @@ module _ (κs : Lfts 3) (a : Args cascade.Cascade.run.signature κs) (r : Cascad
   not_another_total e = omega (arith, cascaded.1)
 
 -- the first tier by itself, of the same columns: W1 gives 3, P1 closes 2 and P2 closes 1
-module _ (κs : Lfts 3) (a : Args cascade.Cascade.tier.signature κs) (r : Cascade) (s : AtExit cascade.Cascade.tier.ended κs) (h : cascade.Cascade.tier.Reads.Learnt κs a r s)
+module _ (κs : Lfts 3) (a : Args cascade_contracts.Cascade.tier.signature κs) (r : Cascade) (s : AtExit cascade_contracts.Cascade.tier.ended κs) (h : cascade.Cascade.tier.Reads.Learnt κs a r s)
     (state : a.0 ≡ first) (keys : a.1.0.now ≡ 5 ∷ 2 ∷ 3 ∷ 1 ∷ 4 ∷ []) (standings : a.1.1.0.now ≡ 3 ∷ 0 ∷ 1 ∷ 0 ∷ 2 ∷ [])
     (stakes : a.1.1.1.0.now ≡ 1 ∷ 4 ∷ 3 ∷ 6 ∷ 5 ∷ []) (count : a.1.1.1.1.0 ≡ 5) (k : a.1.1.1.1.1.0 ≡ 1) where
   pub tiered : (take 5 r.offset ≡ 0 ∷ 1 ∷ 3 ∷ 2 ∷ 0 ∷ []) × (r.total ≡ 3)

@@ -28,6 +28,7 @@ use Rattle.cases.specs.Cases.{the_listing}
 use Rattle.writing.specs.Written.{written_front}
 use Rattle.allotment.specs.declared.Listing.{Listing}
 use Rattle.allotment.proofs as allotment
+use Rattle.allotment.specs.contracts as allotment_contracts
 use Rattle.examples.specs.Allowed.{Tried, tried, allowed, Contradicted, done, ◌&◌, none_given}
 
 -- the listing, and the same with a comma in L; buffers filled with one byte
@@ -151,7 +152,7 @@ contradicted = none_given wrong (
 
 -- What the program's `list` leaves at the front of the buffer, as many bytes as it says, is the listing: a refused book is not listed as one
 -- without customers, and an accepted one is not left as its report.
-module _ (κs : Lfts 2) (a : Args allotment.list.signature κs) (r : Listing) (s : AtExit allotment.list.ended κs) (h : allotment.list.Reads.Learnt κs a r s) where
+module _ (κs : Lfts 2) (a : Args allotment_contracts.list.signature κs) (r : Listing) (s : AtExit allotment_contracts.list.ended κs) (h : allotment.list.Reads.Learnt κs a r s) where
   pub listed : take r.length s.1.0.now ≡ listing a.0.now
   listed =
       let text = listing a.0.now in

@@ -13,6 +13,7 @@ use Rattle.rules.specs.Division.{one_if, left_over_of, rank, share_of, share}
 use Rattle.cases.specs.Case.{Holds, so}
 use Rattle.division.specs.Shares.{share_at, divided}
 use Rattle.division.proofs as division
+use Rattle.division.specs.contracts as division_contracts
 use Rattle.examples.specs.Allowed.{same_self}
 
 -- lots, under the name of the wrong program that comes to them
@@ -43,7 +44,7 @@ pub data NoneRight : List Wrong → Type 0 where
   done : NoneRight []
   ◌&◌ : {w : Wrong} {ws : List Wrong} → Holds w.name (not (same w.lots right)) → NoneRight ws → NoneRight (w ∷ ws)
 
-module _ (κs : Lfts 2) (a : Args division.divide.signature κs) (r : Res division.divide.signature κs) (s : AtExit division.divide.ended κs) (h : division.divide.Reads.Learnt κs a r s)
+module _ (κs : Lfts 2) (a : Args division_contracts.divide.signature κs) (r : Res division_contracts.divide.signature κs) (s : AtExit division_contracts.divide.ended κs) (h : division.divide.Reads.Learnt κs a r s)
     (weights : a.0.now ≡ 5 ∷ 5 ∷ 4 ∷ []) (keys : a.1.0.now ≡ 2 ∷ 1 ∷ 3 ∷ []) (count : a.1.1.0 ≡ 3) (x : a.1.1.1.0 ≡ 7) where
   pub divided_so : s.0.now ≡ right
   unfolding divided share_at share share_of left_over_of rank
@@ -56,6 +57,7 @@ module _ (κs : Lfts 2) (a : Args division.divide.signature κs) (r : Res divisi
 
   not_both : {n : String} (b : Bool) → b ≡ true → Holds n (not b) → ⊥
   not_both false e so = absurd (omega (arith, ap one_if e))
+  not_both {n = n} true e x3 = elim x3 [ ]
 
   none_left : (ws : List Wrong) → NoneRight ws → Contradicted ws
   none_left [] done = tt
@@ -65,7 +67,7 @@ module _ (κs : Lfts 2) (a : Args division.divide.signature κs) (r : Res divisi
   contradicted = none_left wrongs (so & so & so & so & so & so & so & done)
 
 -- the same with a fourth place, which no member has: what stands there stays
-module _ (κs : Lfts 2) (a : Args division.divide.signature κs) (r : Res division.divide.signature κs) (s : AtExit division.divide.ended κs) (h : division.divide.Reads.Learnt κs a r s)
+module _ (κs : Lfts 2) (a : Args division_contracts.divide.signature κs) (r : Res division_contracts.divide.signature κs) (s : AtExit division_contracts.divide.ended κs) (h : division.divide.Reads.Learnt κs a r s)
     (weights : a.0.now ≡ 5 ∷ 5 ∷ 4 ∷ 9 ∷ []) (keys : a.1.0.now ≡ 2 ∷ 1 ∷ 3 ∷ 4 ∷ []) (count : a.1.1.0 ≡ 3) (x : a.1.1.1.0 ≡ 7) where
   pub behind_stays : s.0.now ≡ 2 ∷ 3 ∷ 2 ∷ 9 ∷ []
   unfolding divided share_at share share_of left_over_of rank

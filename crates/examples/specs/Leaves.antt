@@ -27,14 +27,18 @@ use Rattle.fields.specs.declared.FigureAt.TheVariants.{Value}
 use Rattle.fields.specs.declared.FigureAt.TheVariants.{Refused as NoFigure}
 use Rattle.fields.specs.Reading.{refused_at, no_refusal}
 use Rattle.gain.proofs as gain
+use Rattle.gain.specs.contracts as gain_contracts
 use Rattle.fields.proofs as fields
+use Rattle.fields.specs.contracts as fields_contracts
 use Rattle.writing.proofs as writing
+use Rattle.writing.specs.contracts as writing_contracts
 use Rattle.figures.proofs as figures
+use Rattle.figures.specs.contracts as figures_contracts
 
 abbrev holds : ℕ → ℕ → Position
 holds long short = record { long = lots long; short = lots short; unfilled = lots 0 }
 
-module _ (κs : Lfts 0) (a : Args gain.net_long.signature κs) (r : Bool) (s : AtExit gain.net_long.ended κs) (h : gain.net_long.Reads.Learnt κs a r s) where
+module _ (κs : Lfts 0) (a : Args gain_contracts.net_long.signature κs) (r : Bool) (s : AtExit gain_contracts.net_long.ended κs) (h : gain.net_long.Reads.Learnt κs a r s) where
   pub equal_is_not_long : a.0 ≡ holds 1 1 → r ≡ false
   equal_is_not_long e = h ∙ rw e refl
 
@@ -44,14 +48,14 @@ module _ (κs : Lfts 0) (a : Args gain.net_long.signature κs) (r : Bool) (s : A
   pub smaller_is_not : a.0 ≡ holds 1 2 → r ≡ false
   smaller_is_not e = h ∙ rw e refl
 
-module _ (κs : Lfts 0) (a : Args fields.refusal_in.signature κs) (r : Refusal) (s : AtExit fields.refusal_in.ended κs) (h : fields.refusal_in.Reads.Learnt κs a r s) where
+module _ (κs : Lfts 0) (a : Args fields_contracts.refusal_in.signature κs) (r : Refusal) (s : AtExit fields_contracts.refusal_in.ended κs) (h : fields.refusal_in.Reads.Learnt κs a r s) where
   pub handed_on : a.0 ≡ NoFigure (refused_at refusal.comma 17) → r ≡ refused_at refusal.comma 17
   handed_on e = h ∙ rw e refl
 
   pub none_in_a_figure : a.0 ≡ Value 8_000 25 → r ≡ no_refusal
   none_in_a_figure e = h ∙ rw e refl
 
-module _ (κs : Lfts 0) (a : Args writing.letter_of.signature κs) (r : ℕ) (s : AtExit writing.letter_of.ended κs) (h : writing.letter_of.Reads.Learnt κs a r s) where
+module _ (κs : Lfts 0) (a : Args writing_contracts.letter_of.signature κs) (r : ℕ) (s : AtExit writing_contracts.letter_of.ended κs) (h : writing.letter_of.Reads.Learnt κs a r s) where
   pub p : a.0 ≡ Pending → r ≡ code "P"
   p e = h ∙ rw e refl
 
@@ -67,7 +71,7 @@ module _ (κs : Lfts 0) (a : Args writing.letter_of.signature κs) (r : ℕ) (s 
   pub n : a.0 ≡ Neither → r ≡ code "N"
   n e = h ∙ rw e refl
 
-module _ (κs : Lfts 1) (a : Args figures.read_written.signature κs) (r : Written) (s : AtExit figures.read_written.ended κs) (h : figures.read_written.Reads.Learnt κs a r s) where
+module _ (κs : Lfts 1) (a : Args figures_contracts.read_written.signature κs) (r : Written) (s : AtExit figures_contracts.read_written.ended κs) (h : figures.read_written.Reads.Learnt κs a r s) where
   pub with_decimals : a.0.now ≡ bytes "400.00" → r ≡ Number 40_000 2
   unfolding written_of
   with_decimals e = h ∙ ap written_of e
@@ -80,12 +84,12 @@ module _ (κs : Lfts 1) (a : Args figures.read_written.signature κs) (r : Writt
   unfolding written_of
   no_leading_zero e = h ∙ ap written_of e
 
-module _ (κs : Lfts 1) (a : Args figures.read_figure.signature κs) (r : Figure) (s : AtExit figures.read_figure.ended κs) (h : figures.read_figure.Reads.Learnt κs a r s) where
+module _ (κs : Lfts 1) (a : Args figures_contracts.read_figure.signature κs) (r : Figure) (s : AtExit figures_contracts.read_figure.ended κs) (h : figures.read_figure.Reads.Learnt κs a r s) where
   pub a_comma : a.0.now ≡ bytes "8,000" → a.1.0 ≡ rate_form → r ≡ Comma
   unfolding written_of figure_of
   a_comma e f = h ∙ ap₂ (λ v w. figure_of w v) e f
 
-module _ (κs : Lfts 1) (a : Args figures.read_held.signature κs) (r : Figure) (s : AtExit figures.read_held.ended κs) (h : figures.read_held.Reads.Learnt κs a r s) where
+module _ (κs : Lfts 1) (a : Args figures_contracts.read_held.signature κs) (r : Figure) (s : AtExit figures_contracts.read_held.ended κs) (h : figures.read_held.Reads.Learnt κs a r s) where
   pub none_held : a.0.now ≡ bytes "0" → r ≡ Says 0
   unfolding written_of figure_of
   none_held e = h ∙ ap (figure_of held_form) e
@@ -106,7 +110,7 @@ module _ (κs : Lfts 1) (a : Args figures.read_held.signature κs) (r : Figure) 
   held_comma e = h ∙ ap (figure_of held_form) e
 
 -- the K of 8 lots
-module _ (κs : Lfts 1) (a : Args fields.held_at.signature κs) (r : FigureAt) (s : AtExit fields.held_at.ended κs) (h : fields.held_at.Reads.Learnt κs a r s)
+module _ (κs : Lfts 1) (a : Args fields_contracts.held_at.signature κs) (r : FigureAt) (s : AtExit fields_contracts.held_at.ended κs) (h : fields.held_at.Reads.Learnt κs a r s)
     (book : a.0.now ≡ code "K" ∷ 0 ∷ 1 ∷ code "8" ∷ []) (front : a.1.0 ≡ 0) where
   -- where the place after it is that where its value begins: 3
   pub eight_held : a.1.1.0 ≡ code "K" → r ≡ Value 8 4

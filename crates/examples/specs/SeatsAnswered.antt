@@ -29,8 +29,11 @@ use Rattle.seats.specs.declared.SeatAt.TheVariants.{Found, NoSeat}
 use Rattle.seats.specs.Dealt.{seats_at}
 use Rattle.writing.specs.Written.{written}
 use Rattle.positions.proofs as positions
+use Rattle.positions.specs.contracts as positions_contracts
 use Rattle.seats.proofs as seats
+use Rattle.seats.specs.contracts as seats_contracts
 use Rattle.entries.proofs as entries
+use Rattle.entries.specs.contracts as entries_contracts
 
 -- locked down, at 400.00
 abbrev terms : Terms
@@ -46,7 +49,7 @@ of_w = seat "1" "4" "7" "4" ++ seat "2" "0" "2" "0" ++ end
 abbrev empty : List ℕ → List ℕ
 empty more = seat "1" "0" "0" "0" ++ more
 
-module _ (κs : Lfts 1) (a : Args positions.read_seats.signature κs) (r : PositionAt) (s : AtExit positions.read_seats.ended κs) (h : positions.read_seats.Reads.Learnt κs a r s)
+module _ (κs : Lfts 1) (a : Args positions_contracts.read_seats.signature κs) (r : PositionAt) (s : AtExit positions_contracts.read_seats.ended κs) (h : positions.read_seats.Reads.Learnt κs a r s)
     (under : a.1.0 ≡ terms) (front : a.1.1.0 ≡ 0) where
   -- the last seat alone: 0, 2 and 0; the first: 4, 7 and 4
   pub added_up : a.0.now ≡ of_w → r ≡ Read (record { long = lots 4; short = lots 9; unfilled = lots 4 }) 32
@@ -58,7 +61,7 @@ module _ (κs : Lfts 1) (a : Args positions.read_seats.signature κs) (r : Posit
   unfolding seats_of seat_of position_of code_of key_of digit_of is_code written_of figure_of fields_of
   twice e = h ∙ rw (e, under, front) refl
 
-module _ (κs : Lfts 1) (a : Args seats.seat_lots.signature κs) (r : Res seats.seat_lots.signature κs) (s : AtExit seats.seat_lots.ended κs) (h : seats.seat_lots.Reads.Learnt κs a r s)
+module _ (κs : Lfts 1) (a : Args seats_contracts.seat_lots.signature κs) (r : Res seats_contracts.seat_lots.signature κs) (s : AtExit seats_contracts.seat_lots.ended κs) (h : seats.seat_lots.Reads.Learnt κs a r s)
     (front : a.1.0 ≡ 0) (x : a.1.1.1.1.0 ≡ 5) where
   -- ties by place or to the larger code: 2, 2 and 1; by lots held: 1, 3 and 1
   pub lots_of_p : a.0.now ≡ of_p → a.1.1.0 ≡ Pending → r ≡ 2 ∷ 1 ∷ 2 ∷ 0 ∷ []
@@ -71,7 +74,7 @@ module _ (κs : Lfts 1) (a : Args seats.seat_lots.signature κs) (r : Res seats.
   lots_of_w e standing long = h ∙ rw (e, front, standing, long, x) refl
 
 -- where a seat may begin with another tag: one that ends at 12
-module _ (κs : Lfts 1) (a : Args seats.next_seat.signature κs) (r : SeatAt) (s : AtExit seats.next_seat.ended κs) (h : seats.next_seat.Reads.Learnt κs a r s) (front : a.1.0 ≡ 0) where
+module _ (κs : Lfts 1) (a : Args seats_contracts.next_seat.signature κs) (r : SeatAt) (s : AtExit seats_contracts.next_seat.ended κs) (h : seats.next_seat.Reads.Learnt κs a r s) (front : a.1.0 ≡ 0) where
   pub no_seat : a.0.now ≡ field "C" (bytes "A") ++ seat "" "" "" "" → r ≡ NoSeat
   unfolding fields_of
   no_seat e = h ∙ rw (e, front) refl
@@ -81,19 +84,19 @@ module _ (κs : Lfts 1) (a : Args seats.next_seat.signature κs) (r : SeatAt) (s
   first_of_two e = h ∙ rw (e, front) refl
 
 -- the first of two has all of the offset: a seat
-module _ (κs : Lfts 1) (a : Args seats.only_seat.signature κs) (r : SeatAt) (s : AtExit seats.only_seat.ended κs) (h : seats.only_seat.Reads.Learnt κs a r s) where
+module _ (κs : Lfts 1) (a : Args seats_contracts.only_seat.signature κs) (r : SeatAt) (s : AtExit seats_contracts.only_seat.ended κs) (h : seats.only_seat.Reads.Learnt κs a r s) where
   pub two_are_not_alone : a.0.now ≡ of_w → a.1.0 ≡ 0 → r ≡ NoSeat
   unfolding fields_of
   two_are_not_alone e front = h ∙ rw (e, front) refl
 
 -- without the tag J: 9; with the code twice: 12
-module _ (κs : Lfts 0) (a : Args entries.seat_length.signature κs) (r : ℕ) (s : AtExit entries.seat_length.ended κs) (h : entries.seat_length.Reads.Learnt κs a r s) where
+module _ (κs : Lfts 0) (a : Args entries_contracts.seat_length.signature κs) (r : ℕ) (s : AtExit entries_contracts.seat_length.ended κs) (h : entries.seat_length.Reads.Learnt κs a r s) where
   pub length_of_a_seat : a.0 ≡ 2 → a.1.0 ≡ 12 → r ≡ 10
   unfolding digits
   length_of_a_seat e f = h.0 ∙ rw (e, f) refl
 
 -- the lots under O, and the lots before the code, are other bytes
-module _ (κs : Lfts 2) (a : Args entries.put_seat.signature κs) (r : ℕ) (s : AtExit entries.put_seat.ended κs) (h : entries.put_seat.Reads.Learnt κs a r s) where
+module _ (κs : Lfts 2) (a : Args entries_contracts.put_seat.signature κs) (r : ℕ) (s : AtExit entries_contracts.put_seat.ended κs) (h : entries.put_seat.Reads.Learnt κs a r s) where
   pub seat_put : a.0.now ≡ bytes "xxxxxxxxxxx" → a.1.0 ≡ 0 → a.1.1.0.now ≡ bytes "M1" → a.1.1.1.0 ≡ 12 → s.0.now ≡ field "I" (bytes "M1") ++ field "J" (bytes "12") ++ bytes "x"
   unfolding written digits
   seat_put out at code n = h.whole ∙ rw (out, at, code, n) refl

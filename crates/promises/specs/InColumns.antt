@@ -3,7 +3,7 @@
 -- Assumes nothing.
 use Rattle.std.specs.Prelude.{ℕ, ◌<◌, ◌≡◌, true, length, drop, ltb}
 use Rattle.std.proofs.Math.Path.{refl, ap}
-use Rattle.std.proofs.Common.{sym, ◌∙◌, arith}
+use Rattle.std.proofs.Common.{subst, sym, ◌∙◌, arith}
 use mathlib.Core.List.{List, ◌++◌}
 use borrow.Author.Tests.{ltb-true, ltb-false}
 use Rattle.rules.specs.declared.Terms.{Terms}
@@ -82,7 +82,7 @@ module _ (c : ViewCall) where
       let pending = kept _ (lent_to c).pending (left_by c).pending r.pending v.pending in
       let offsets = kept _ (lent_to c).offsets (left_by c).offsets r.offsets v.offsets in
       record {
-        why = rw (number, at) w;
+        why = subst (λ (x : ℕ). WhyNot s room x c.answer.place) (sym number) (subst (λ (x : ℕ). WhyNot s room n x) (sym at) w);
         none = v.length ∙ ap (λ (a : Answer01). a.length) r.standings;
         as_lent = λ i. runs (standings i) (offered i) (pending i) (offsets i);
       }

@@ -36,6 +36,7 @@ having n (r ∷ rs) = cond (eqb r.number n) 1 0 + having n rs
 first_has : {due : Due} {t n : ℕ} {v : List ℕ} (rs : List Rule) → FirstOf due t v rs n → 0 < having n rs
 first_has (r ∷ rs) (here h) = rw (eq-eqb r.number r.number refl) (omega arith)
 first_has (r ∷ rs) (after h f) = omega (arith, first_has rs f)
+first_has {due = due} {t = t} {n = n} {v = v} [] x' = elim x' [ ]
 
 module _ (s : List ℕ) where
   given_other : {n place : ℕ} → Given s n place → n ≡ refusal.no_room → ⊥

@@ -25,12 +25,13 @@ use Rattle.cascade.specs.State.{offset_of}
 use Rattle.columns.specs.Layouts.{standing_of, offered_of}
 use Rattle.columns.specs.View.{Runs, runs, view, places_of, viewed_of, viewed, Viewed}
 use Rattle.frundavel.proofs as frundavel
+use Rattle.frundavel.specs.contracts as frundavel_contracts
 
 pub record ViewCall : Type 0 where
   pub lifetimes : Lfts 5
-  pub arguments : Args frundavel.frundavel_columns.signature lifetimes
+  pub arguments : Args frundavel_contracts.frundavel_columns.signature lifetimes
   pub answer : Answer
-  pub exit : AtExit frundavel.frundavel_columns.ended lifetimes
+  pub exit : AtExit frundavel_contracts.frundavel_columns.ended lifetimes
   pub contract : frundavel.frundavel_columns.Reads.Learnt lifetimes arguments answer exit
 
 -- the book; the four runs as they were lent, and as they are left

@@ -9,7 +9,7 @@ use denote.Triple.Clauses.{Ended, Lasts, AtExit, at_exit}
 use Rattle.rules.specs.Answer.{Answer as Answer01}
 use Rattle.answers.specs.declared.Answer.{Answer}
 use Rattle.answers.specs.Answered.{Answered}
-use Rattle.sheets.specs.contracts as in_sheets
+use Rattle.sheets.specs.contracts as sheets_contracts
 use Rattle.sheets.proofs as sheets
 
 abbrev pub Contract : Ended → Type 1
@@ -30,15 +30,15 @@ same r q n p l i = record { number = n i; place = p i; length = l i }
 answered : {a : Answer01} {r q : Answer} {entry x y : List ℕ} → Answered a r entry x → Answered a q entry y → (r ≡ q) × (x ≡ y)
 answered {a} {r} {q} e f = (same r q (e.number ∙ sym f.number) (e.place ∙ sym f.place) (e.length ∙ sym f.length), e.buffer ∙ sym f.buffer)
 
-pub sheet_to_book : Determined in_sheets.sheet_to_book.ended sheets.sheet_to_book.Reads.Learnt
+pub sheet_to_book : Determined sheets_contracts.sheet_to_book.ended sheets.sheet_to_book.Reads.Learnt
 sheet_to_book κs a r q s t e f = ((answered e f).0, ap (λ (l : List ℕ). (tt, (l, tt))) (answered e f).1)
 
-pub book_to_sheet : Determined in_sheets.book_to_sheet.ended sheets.book_to_sheet.Reads.Learnt
+pub book_to_sheet : Determined sheets_contracts.book_to_sheet.ended sheets.book_to_sheet.Reads.Learnt
 book_to_sheet κs a r q s t e f = ((answered e f).0, ap (λ (l : List ℕ). (tt, (tt, (l, tt)))) (answered e f).1)
 
 -- whatever the bytes
-pub asks_sheet_to_book : AsksNothing in_sheets.sheet_to_book.ended sheets.sheet_to_book.Reads.Asked
+pub asks_sheet_to_book : AsksNothing sheets_contracts.sheet_to_book.ended sheets.sheet_to_book.Reads.Asked
 asks_sheet_to_book κs a = tt
 
-pub asks_book_to_sheet : AsksNothing in_sheets.book_to_sheet.ended sheets.book_to_sheet.Reads.Asked
+pub asks_book_to_sheet : AsksNothing sheets_contracts.book_to_sheet.ended sheets.book_to_sheet.Reads.Asked
 asks_book_to_sheet κs a = tt

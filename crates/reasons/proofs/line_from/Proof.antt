@@ -29,7 +29,7 @@ returns-2 : tie.Need-returns
 returns-2 c =
     let a = c.args in
     sym (elim c.if-number-split.branch [
-      then-number-split+else-place-ne0 w ↦ at_first a.first a.split a.number a.place w.if-number-split.true w.if-place-ne0.false
+      | then-number-split+else-place-ne0 w ↦ at_first a.first a.split a.number a.place w.if-number-split.true w.if-place-ne0.false
       | else-number-split w ↦ other a.first a.split a.number a.place w.if-number-split.false
     ])
 
