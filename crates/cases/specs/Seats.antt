@@ -1,6 +1,6 @@
 -- Request [5]: customers with several seats. Which fields may stand where, the sums, and the lots of each seat. S 400.00, gold edges, locked down.
 -- Assumes nothing.
-use Rattle.std.specs.Prelude.{ℕ, List, [], ◌∷◌, ◌++◌, length, take}
+use Rattle.std.specs.Prelude.{ℕ, List, [], ◌∷◌, ◌++◌, take}
 use Prim.Native.String.{String}
 use Rattle.rules.specs.Text.{bytes}
 use Rattle.cases.specs.Tables.{gold, gold_up, bought, sold, begins, held, seat, seated, customer, end, book, totals, seat_entry, entry_over, entry}

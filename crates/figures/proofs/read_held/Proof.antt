@@ -6,7 +6,6 @@ use Rattle.rules.specs.declared.Written.TheVariants.{Number}
 use Rattle.rules.specs.Figures.{held_form, written_of, asked, figure_of}
 use Rattle.laws.specs.Figures.{figure_read}
 use Rattle.figures.specs.Numbers.{run, may_be_whole, no_figure, refused_as_of}
-use Rattle.figures.proofs.Lists.{negated, affirmed}
 use Rattle.figures.proofs.Sizes.{at_most}
 use Rattle.figures.proofs.Wholes.{written_whole, whole_tested, tested_most, tested_whole, not_allowed}
 use Rattle.figures.proofs.read_held.Statement.{statement}

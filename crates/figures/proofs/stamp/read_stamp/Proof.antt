@@ -3,7 +3,6 @@
 use Rattle.std.proofs.Common.{◌≡◌, ◌+◌, true, sym, ◌∙◌, arith, rules}
 use Rattle.rules.specs.Stamp.{is_date}
 use Rattle.figures.specs.Stamps.{stamp_in}
-use Rattle.figures.proofs.Lists.{negated, affirmed}
 use Rattle.figures.proofs.Stamps.{no_first, no_second}
 use Rattle.figures.proofs.Dates.{date_range}
 use Rattle.figures.proofs.Tests.{no_century_tens, no_century_ones, no_date, no_hour, no_minute, twos_stamp, told_so}

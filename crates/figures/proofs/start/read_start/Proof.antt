@@ -5,7 +5,7 @@ use Rattle.figures.specs.declared.start.Start.{Start}
 use Rattle.figures.specs.declared.start.Start.TheVariants.{Other}
 use Rattle.figures.specs.Numbers.{run, may_be_whole}
 use Rattle.figures.specs.Starts.{behind, start_of}
-use Rattle.figures.proofs.Lists.{to_end, negated, affirmed}
+use Rattle.figures.proofs.Lists.{to_end}
 use Rattle.figures.proofs.Runs.{run_most}
 use Rattle.figures.proofs.Sizes.{at_most, run_below}
 use Rattle.figures.proofs.start.read_start.Statement.{statement}
