@@ -8,7 +8,7 @@ use Rattle.laws.specs.ByTest.{by_test}
 use Rattle.consequences.specs.Rearranged.{picked, among, Below}
 use Rattle.laws.specs.Sums.{up_to, map_up_to}
 use Rattle.order.specs.Order.{of_stamp, Rearranged}
-use Rattle.consequences.specs.RisingIndices.{Rises, none_high, own, one_rise}
+use Rattle.consequences.specs.RisingIndices.{Rises, none_high, one_rise}
 
 -- some indices of trades whose stamps are given by index
 module _ (stamp_at : ℕ → ℕ) where

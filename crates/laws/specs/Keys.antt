@@ -148,12 +148,14 @@ code_coded v e = go (leb 1 (length v)) (leb (length v) longest_code) refl e
     go true false f e = let z : ◌≡◌ {A = ℕ} 0 1 = cc in absurd (omega arith)
     go false q f e = let z : ◌≡◌ {A = ℕ} 0 1 = cc in absurd (omega arith)
 
+-- The two laws below take this apart by themselves: so each is refused by its own name where a key is wrong.
 compared : (a b : List ℕ) → is_code a ≡ true → is_code b ≡ true → Compared a b (key_of a) (key_of b)
 unfolding key_of
 compared a b e f = compare longest_code a b (code_coded a e) (code_coded b f)
 
 pub key_same : (a b : List ℕ) → is_code a ≡ true → is_code b ≡ true → same a b ≡ eqb (key_of a) (key_of b)
-key_same a b e f = go (compared a b e f)
+unfolding key_of
+key_same a b e f = go (compare longest_code a b (code_coded a e) (code_coded b f))
   where
     go : Compared a b (key_of a) (key_of b) → same a b ≡ eqb (key_of a) (key_of b)
     go (less s t i) = t ∙ sym (ne_eqb (key_of a) (key_of b) (omega arith))
@@ -161,7 +163,8 @@ key_same a b e f = go (compared a b e f)
     go (more s t i) = t ∙ sym (ne_eqb (key_of a) (key_of b) (omega arith))
 
 pub key_smaller : (a b : List ℕ) → is_code a ≡ true → is_code b ≡ true → smaller a b ≡ ltb (key_of a) (key_of b)
-key_smaller a b e f = go (compared a b e f)
+unfolding key_of
+key_smaller a b e f = go (compare longest_code a b (code_coded a e) (code_coded b f))
   where
     go : Compared a b (key_of a) (key_of b) → smaller a b ≡ ltb (key_of a) (key_of b)
     go (less s t i) = s ∙ sym (lt-ltb (key_of a) (key_of b) i)

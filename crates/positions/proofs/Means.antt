@@ -20,7 +20,7 @@ use Rattle.rules.specs.Text.{is}
 use Rattle.rules.specs.Codes.{is_code}
 use Rattle.rules.specs.Fields.{Field, Whole, Cut, fields_of}
 use Rattle.rules.specs.Seats.{seat_code}
-use Rattle.rules.specs.Book.{Seat, added, Customer, seated, Part, DueI, DueSeat, DueTrade, Group, Open, joined_by, sits, trades, within}
+use Rattle.rules.specs.Book.{Seat, added, Customer, seated, Part, DueI, DueSeat, DueTrade, Group, Open, joined_by, sits, within}
 use Rattle.laws.specs.ByTest.{by_test}
 use Rattle.laws.specs.Sums.{sum_snoc}
 use Rattle.laws.specs.Keys.{key_of}

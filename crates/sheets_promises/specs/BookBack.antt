@@ -77,7 +77,3 @@ module _ (m : ℕ) (k : is_mark m ≡ true) (s : List ℕ) (b : Bytes s) (terms 
       go : Spare 6 (fields_of s) → length (mark_line m ++ joined (field_in m) (fields_of s)) ≤ longest_book
       go (seated h) = omega (arith, lengths, long)
       go (few h) = omega (arith, lengths)
-
-  pub book_back : read (sheet_of m s) ≡ Made s
-  unfolding read sheet_of
-  book_back = rw (le-ltb longest_book (length (sheet_of m s)) sheet_short) (behind_mark m k (joined (field_in m) (fields_of s)) ∙ fields_read m k (accepted_fields s terms cs e) 2 ∙ ap Made (book_is s b (accepted_fields s terms cs e)))

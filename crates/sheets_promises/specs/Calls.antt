@@ -12,7 +12,7 @@ use Rattle.sheets.specs.Mark.{is_mark}
 use Rattle.sheets.specs.Read.{Bad, Made, read}
 use Rattle.sheets.specs.Write.{sheet_of}
 use Rattle.sheets.specs.Answers.{left, left_book, to_book, to_sheet}
-use Rattle.sheets_promises.specs.BookBack.{Bytes, book_back}
+use Rattle.sheets_promises.specs.BookBack.{Bytes}
 use Rattle.sheets_promises.specs.SheetBack.{mark_of, sheet_back, made_marked}
 use Rattle.sheets_promises.specs.LineReasons.{BadAt, no_feed, unformed, strays, later}
 use Rattle.sheets_promises.specs.Reasons.{Reason, too_long, no_mark, bad_line}
@@ -51,15 +51,7 @@ number_least r = (numbers r).0
 pub number_most : {s : List ℕ} {n p : ℕ} → Reason s n p → n ≤ 22
 number_most r = (numbers r).1
 
--- an accepted book to sheet to book, through both calls, with buffers that are large enough
-pub book_call_back : (m : ℕ) → is_mark m ≡ true → (s : List ℕ) → Bytes s → (terms : Terms) (cs : List Customer) → judge s ≡ Accepted terms cs → (room back : ℕ) → length (sheet_of m s) ≤ room → length s ≤ back →
-    (to_sheet s m room ≡ left (sheet_of m s) 0 0) × (to_book (to_sheet s m room).report back ≡ left s 0 0)
-unfolding to_sheet
-book_call_back m k s b terms cs e room back h g =
-    let there : to_sheet s m room ≡ left (sheet_of m s) 0 0 = rw (k, e, le-ltb room (length (sheet_of m s)) h) in
-    (there, ap (λ (a : Answer). to_book a.report back) there ∙ book_left (sheet_of m s) back s (book_back m k s b terms cs e) g ∙ ap (left_book s) e)
-
--- and a sheet to book to sheet, in its own mark
+-- a sheet to book to sheet, in its own mark; an accepted book to sheet to book: proofs/CallsBack.antt
 pub sheet_call_back : (s b : List ℕ) (terms : Terms) (cs : List Customer) → read s ≡ Made b → judge b ≡ Accepted terms cs → (room back : ℕ) → length b ≤ room → length s ≤ back →
     (to_book s room ≡ left b 0 0) × (to_sheet (to_book s room).report (mark_of s) back ≡ left s 0 0)
 unfolding to_sheet

@@ -38,5 +38,4 @@ pub mod Calls
 pub mod Numbers
 pub mod WriteReasons
 pub mod ReadReasons
-pub mod Room
 pub mod Determined

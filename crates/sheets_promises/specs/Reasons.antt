@@ -1,5 +1,5 @@
 -- Why a sheet is refused, both ways: 1, 20, 21 and 22, each with its place, exactly where the request says, and a book is made exactly where there is
--- no reason. Every sheet has one of the reasons or is good, and each leads to its own answer.
+-- no reason. Every sheet has one of the reasons or is good, and each leads to its own answer: the theorems, in proofs/Refused.antt.
 -- Assumes nothing.
 use Rattle.std.specs.Prelude.{ℕ, ◌≤◌, ◌<◌, ◌↔◌, ◌≡◌, ltb, length}
 use Rattle.std.proofs.Common.{sym, ap, subst, ◌∙◌, ltb-true, ltb-false, lt-ltb, le-ltb}
@@ -24,19 +24,9 @@ pub record GoodSheet (s : List ℕ) : Type 0 where
   pub lines : AllGoodLines head.mark (lines_of head.rest)
 
 module _ (s : List ℕ) where
-  reads_lines : length s ≤ longest_book → (x : MarkLine s) → read s ≡ lines_from x.mark 2 (lines_of x.rest)
+  pub reads_lines : length s ≤ longest_book → (x : MarkLine s) → read s ≡ lines_from x.mark 2 (lines_of x.rest)
   unfolding read
   reads_lines h x = rw (le-ltb longest_book (length s) h) (ap (λ (l : List ℕ). sheet_from (lines_of l)) x.whole ∙ behind_mark x.mark x.either x.rest)
-
-  pub refuses : {n p : ℕ} → Reason s n p → read s ≡ Bad n p
-  unfolding read
-  refuses (too_long h) = rw (lt-ltb longest_book (length s) h)
-  refuses (no_mark h n) = rw (le-ltb longest_book (length s) h) (go (head s))
-    where
-      go : Head s → sheet_from (lines_of s) ≡ Bad 20 1
-      go (marked x) = absurd (n x)
-      go (unmarked z e) = e
-  refuses (bad_line h x b) = reads_lines h x ∙ bad_says x.mark b
 
   pub makes : GoodSheet s → (b : List ℕ) × (read s ≡ Made b)
   makes g = let (b, e) = good_says g.head.mark 2 (lines_of g.head.rest) g.lines in (b, reads_lines g.short g.head ∙ e)
@@ -46,7 +36,7 @@ module _ (s : List ℕ) where
     refused : {n p : ℕ} → Reason s n p → Verdict
     taken : GoodSheet s → Verdict
 
-  verdict : Verdict
+  pub verdict : Verdict
   verdict = by_test (ltb longest_book (length s)) (λ h. refused (too_long (ltb-true longest_book (length s) h))) (λ h. go (ltb-false longest_book (length s) h) (head s))
     where
       lines : length s ≤ longest_book → (x : MarkLine s) → Told x.mark 2 (lines_of x.rest) → Verdict
@@ -56,22 +46,3 @@ module _ (s : List ℕ) where
       go : length s ≤ longest_book → Head s → Verdict
       go h (marked x) = lines h x (told x.mark 2 (lines_of x.rest))
       go h (unmarked n e) = refused (no_mark h n)
-
-  -- "Refusals .. with the line's number as place": each exactly where there is its reason, and a book exactly where there is none
-  pub refused_because : (n p : ℕ) → (read s ≡ Bad n p) ↔ Reason s n p
-  refused_because n p = (go verdict, refuses)
-    where
-      go : Verdict → read s ≡ Bad n p → Reason s n p
-      go (refused {n = a} {p = b} x) e =
-          let q : Bad a b ≡ Bad n p = sym (refuses x) ∙ e in
-          let number : a ≡ n = cc in
-          let place : b ≡ p = cc in
-          subst (λ (j : ℕ). Reason s n j) place (subst (λ (i : ℕ). Reason s i b) number x)
-      go (taken g) e = bad_not (sym e ∙ (makes g).1)
-
-  pub made_because : ((b : List ℕ) × (read s ≡ Made b)) ↔ GoodSheet s
-  made_because = (go verdict, makes)
-    where
-      go : Verdict → ((b : List ℕ) × (read s ≡ Made b)) → GoodSheet s
-      go (refused x) e = bad_not (sym (refuses x) ∙ e.1)
-      go (taken g) e = g

@@ -2,7 +2,6 @@
 -- Assumes nothing.
 use Prim.Native.Nat.{◌-◌, ◌≤◌}
 use mathlib.Core.Path.{◌≡◌}
-use mathlib.Core.Logic.{⊎_elim}
 use native.Mathlib.Omega.{arith}
 use Rattle.division.proofs.Between.{Between, one_between, passed_between, spanned}
 use borrow.Author.Rules.{rules}
@@ -53,7 +52,7 @@ loop-again : tie.Need-loop-i-preserved invariant-loop-i decreases-loop-i
 loop-again c =
     let v = c.loop-i.invariant in
     elim c.if-lots-i.branch [
-      then-lots-i w ↦ rw (w.least-is, w.most-is, w.lesser-least.ensures, w.greater-most.ensures) (omega arith, one_between v.1)
+      | then-lots-i w ↦ rw (w.least-is, w.most-is, w.lesser-least.ensures, w.greater-most.ensures) (omega arith, one_between v.1)
       | else-lots-i w ↦ rw (w.least-is, w.most-is) (omega arith, passed_between v.1 w.if-lots-i.false)
     ]
 

@@ -2,7 +2,6 @@
 -- Assumes nothing.
 use borrow.Author.Rules.{rules}
 use mathlib.Core.Path.{◌≡◌, sym, ap, ◌∙◌}
-use mathlib.Core.Logic.{⊎_elim}
 use mathlib.Core.Bool.{Bool, true, false}
 use Prim.Native.Nat.{◌<◌, ◌^◌}
 use native.Mathlib.Omega.{arith}
@@ -68,7 +67,7 @@ returns-2 : tie.Need-returns-else-reaches
 returns-2 c =
     let r = c in
     elim c.else-reaches.branch [
-      else-reaches-via-then-reaches+else-pending-gt0 w ↦ rw (lost c.before ∙ w.if-reaches.true, pending c.before false (le-ltb 0 c.counted_pending-pending.result.0 w.if-pending-gt0.false))
+      | else-reaches-via-then-reaches+else-pending-gt0 w ↦ rw (lost c.before ∙ w.if-reaches.true, pending c.before false (le-ltb 0 c.counted_pending-pending.result.0 w.if-pending-gt0.false))
       | else-reaches-via-else-reaches w ↦ rw (lost c.before ∙ w.if-reaches.false)
     ]
 

@@ -8,7 +8,6 @@ use lib.ListN.{take, drop, set}
 use Rattle.rules.specs.Fields.{fields_of}
 use Rattle.rules.specs.Limits.{most_seats}
 use Rattle.rules.specs.declared.Position.{Position}
-use Rattle.laws.specs.ByTest.{not_true, not-not}
 use Rattle.positions.specs.declared.PositionAt.TheVariants.{Read as ReadPosition}
 use Rattle.positions.specs.declared.SeatAt.TheVariants.{Read as ReadSeat}
 use Rattle.positions.specs.Seats.{begins_seat, plus, seat_of, seats_of}

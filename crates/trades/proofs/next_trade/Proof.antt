@@ -3,13 +3,12 @@
 use Prim.Native.Nat.{ℕ, ◌-◌, ◌≤◌}
 use mathlib.Core.Path.{◌≡◌, sym, ◌∙◌}
 use mathlib.Core.List.{List}
-use mathlib.Core.Bool.{true, false, cond, not, ◌||◌}
+use mathlib.Core.Bool.{true, cond, ◌||◌}
 use lib.ListN.{length, take, drop}
 use Rattle.rules.specs.Text.{is}
 use Rattle.rules.specs.Opening.{opening_of}
 use Rattle.rules.specs.Fields.{fields_of}
 use Rattle.fields.specs.Laws.{Stands, stands}
-use Rattle.trades.proofs.Sizes.{not_true, not_false}
 use Rattle.trades.specs.declared.Next.TheVariants.{End}
 use Rattle.trades.specs.Walk.{next_of, next_from}
 use Rattle.figures.specs.Good.{good}

@@ -28,7 +28,7 @@ use Rattle.fields.specs.Reading.{refused_at}
 use Rattle.trades.specs.declared.TradesAt.TheVariants.{Closed, Refused}
 use Rattle.trades.specs.Trades.{opening, none_yet, order_after, trades_from}
 use Rattle.trades.proofs.Found.{trades_short, trades_found}
-use Rattle.trades.proofs.Sizes.{not_true, not_false, lots_on_most, sum_fits, sum_is, sum_size}
+use Rattle.trades.proofs.Sizes.{lots_on_most, sum_fits, sum_is, sum_size}
 use Rattle.trades.proofs.read_trades.Statement.{statement}
 use Rattle.trades.proofs.read_trades.Tie as tie
 

@@ -4,10 +4,10 @@ use Rattle.std.specs.Prelude.{ℕ, ◌≤◌, ◌≡◌, List}
 use Rattle.std.proofs.Common.{arith}
 use Rattle.sheets.specs.Answers.{to_book, to_sheet}
 use Rattle.sheets_promises.specs.BookBack.{Bytes, sheet_short}
-use Rattle.sheets_promises.specs.Reasons.{made_because}
+use Rattle.sheets_promises.proofs.Refused.{made_because}
 use Rattle.sheets_promises.specs.Sizes.{book_size}
 use Rattle.sheets_promises.specs.WriteReasons.{room_23}
-use Rattle.sheets_promises.specs.ReadReasons.{book_23}
+use Rattle.sheets_promises.proofs.ReadReasons.{book_23}
 
 -- "its buffers are always large enough (a sheet of 60,000 bytes can make a book near 120,000)"
 pub enough_for_books : (s : List ℕ) (room : ℕ) → 120_000 ≤ room → (to_book s room).number ≡ 23 → ⊥
