@@ -1,7 +1,6 @@
 -- `days::line::read_interest` meets its contract: bytes that may be open interest are, where they are digits.
 -- Assumes nothing.
 use borrow.Author.Rules.{rules}
-use borrow.Author.Tests.{not-true, not-false}
 use mathlib.Core.Path.{sym, ◌∙◌}
 use Rattle.days.proofs.Parsing.{interest_none, interest_some, interest_short}
 use Rattle.days.proofs.line.read_interest.Statement.{statement}

@@ -5,7 +5,6 @@ use mathlib.Core.Path.{◌≡◌, sym, ap, ◌∙◌}
 use native.Mathlib.Omega.{arith}
 use mathlib.Core.Bool.{Bool}
 use lib.ListN.{length-take}
-use borrow.Author.Tests.{not-true, not-false}
 use Rattle.days.specs.Day.{is_mark, limit_of}
 use Rattle.rules.specs.Figures.{up_to}
 use Rattle.days.specs.Parts.{cut_most, cut_front, cut_behind}
