@@ -1,17 +1,25 @@
-"""What the scripts of the gate ask the kit's prover: to check or to build one crate, in a folder of its own, over the libraries that stand in
-crates/*/out. `rt ci` leaves them there; where a checkout has some that `rt check` or `rt lib` built, `ready` has rt bring all to the files
-as they are. No copy of a crate may stand in the checkout, since `rt ci` refuses it there: `scratch` is a folder among the temporary files."""
+"""What the scripts of the gate and program/build ask the kit's prover: to check or to build one crate, in a folder of its own, over the
+libraries that stand in crates/*/out. `rt ci` leaves them there; what it leaves, no command of rt takes, which would prove all once more. No
+copy of a crate may stand in the checkout, since `rt ci` refuses it there: `scratch` is a folder among the temporary files.
+
+  .ci/prover.py      right after `rt ci` has passed: its libraries are those of the files as they are
+"""
+import concurrent.futures
 import contextlib
 import functools
+import hashlib
 import os
 import pathlib
 import re
 import shutil
 import subprocess
+import sys
 import tempfile
 
 ROOT = pathlib.Path(__file__).resolve().parent.parent
 PARTS = ("src", "specs", "proofs")
+# the sum of what `rt ci` has proved, and left the libraries of
+PROVED = ROOT / "target/proved"
 
 
 @functools.lru_cache(maxsize=None)
@@ -53,15 +61,54 @@ def library(crate):
     return ROOT / "crates" / crate / "out/rlib" / f"{crate}.rlib"
 
 
+def stamp():
+    """A sum of all that the libraries are made from: the kit's name, crates.txt, and the files that the prover reads."""
+    ran = subprocess.run([os.environ.get("RT", "rt"), "version"], stdout=subprocess.PIPE, check=True)
+    files = [ROOT / "crates.txt"]
+    files += (it for part in PARTS for it in ROOT.glob(f"crates/*/{part}/**/*") if it.suffix in (".rt", ".antt"))
+    summed = hashlib.sha256(ran.stdout)
+    for file in sorted(files):
+        summed.update(repr((str(file.relative_to(ROOT)), file.read_bytes())).encode())
+    return summed.hexdigest()
+
+
+def note():
+    """Says, after `rt ci`, what the libraries are made from that it left."""
+    PROVED.parent.mkdir(exist_ok=True)
+    PROVED.write_text(stamp() + "\n")
+
+
+def is_left_by_ci(crates):
+    """Whether the libraries are those that `rt ci` left of the files as they are: rt's other commands put a stamp beside theirs."""
+    places = [library(it) for it in crates]
+    whole = all((it / "format").is_file() and not (it.parent / "stamp").exists() for it in places)
+    return whole and PROVED.is_file() and PROVED.read_text().strip() == stamp()
+
+
 def ready(crates):
-    """Sees that the libraries of these crates, and all below them, are there and of one make: those that `rt ci` left have no stamp."""
-    crates = [it for it in [*below(crates), *crates] if it not in kinds()]
-    made = [(library(it) / "format").is_file() for it in crates]
-    stamped = [(library(it).parent / "stamp").is_file() for it in crates]
-    if all(made) and not any(stamped):
+    """Sees that the libraries of these crates, and all below them, are there and of one make: those that `rt ci` left, where nothing has
+    changed since, or else those of `rt lib`, which proves what is new, side by side."""
+    crates = [it for it in dict.fromkeys([*below(crates), *crates]) if it not in kinds()]
+    if is_left_by_ci(crates):
         return
-    for crate in dict.fromkeys(crates):
-        subprocess.run([os.environ.get("RT", "rt"), "lib"], cwd=ROOT / "crates" / crate, stdout=subprocess.PIPE, stderr=subprocess.STDOUT, check=True)
+    made = {}
+
+    def build(crate):
+        if not all(made[it].result() for it in listed()[crate] if it in made):
+            return False
+        ran = subprocess.run([os.environ.get("RT", "rt"), "lib"], cwd=ROOT / "crates" / crate, stdout=subprocess.PIPE, stderr=subprocess.STDOUT,
+                             check=False)
+        if ran.returncode:
+            print(ran.stdout.decode(errors="replace"), end="", file=sys.stderr)
+            print(f"{crate} is not proved", file=sys.stderr, flush=True)
+        return not ran.returncode
+
+    # a crate comes after those that it waits for, so that some thread always has work
+    with concurrent.futures.ThreadPoolExecutor(os.cpu_count()) as pool:
+        for crate in crates:
+            made[crate] = pool.submit(build, crate)
+    if not all(it.result() for it in made.values()):
+        sys.exit(1)
 
 
 def ask(verb, folder, name, names, *more, at=None):
@@ -100,3 +147,7 @@ def scratch(name):
     logs.mkdir(parents=True)
     with tempfile.TemporaryDirectory(prefix=f"frundavel-{name}-") as room:
         yield pathlib.Path(room), logs
+
+
+if __name__ == "__main__":
+    note()
