@@ -1,3 +1,4 @@
+#!/usr/bin/env -S python3 -B
 """What the scripts of the gate and program/build ask the kit's prover: to check or to build one crate, in a folder of its own, over the
 libraries that stand in crates/*/out. `rt ci` leaves them there; what it leaves, no command of rt takes, which would prove all once more. No
 copy of a crate may stand in the checkout, since `rt ci` refuses it there: `scratch` is a folder among the temporary files.
