@@ -19,6 +19,8 @@ import tempfile
 
 ROOT = pathlib.Path(__file__).resolve().parent.parent
 PARTS = ("src", "specs", "proofs")
+# checks at a time
+JOBS = int(os.environ.get("JOBS") or os.cpu_count())
 # the sum of what `rt ci` has proved, and left the libraries of
 PROVED = ROOT / "target/proved"
 
@@ -105,7 +107,7 @@ def ready(crates):
         return not ran.returncode
 
     # a crate comes after those that it waits for, so that some thread always has work
-    with concurrent.futures.ThreadPoolExecutor(os.cpu_count()) as pool:
+    with concurrent.futures.ThreadPoolExecutor(JOBS) as pool:
         for crate in crates:
             made[crate] = pool.submit(build, crate)
     if not all(it.result() for it in made.values()):
