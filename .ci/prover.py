@@ -114,6 +114,12 @@ def ready(crates):
         sys.exit(1)
 
 
+def whole_or_not(crates):
+    """The words by which a library is built as those of these crates are: `rt ci` leaves statements without proofs, and the prover takes no such
+    library over one that has proofs too."""
+    return ["--statements"] if is_left_by_ci([it for it in dict.fromkeys([*below(crates), *crates]) if it not in kinds()]) else []
+
+
 def ask(verb, folder, name, names, *more, at=None):
     """Has the prover check or build the crate `name` in the folder, over the libraries `names` of this repository or of the kit: whether it is
     proved, and what it said. `at` has the places of libraries that stand elsewhere than the others."""

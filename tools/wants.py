@@ -1,8 +1,10 @@
 #!/usr/bin/env -S python3 -B
-"""Turns the `want:` lines of must-fail edits to what today's prover says (docs/PORT.md).
+"""Turns the `want:` lines of edits to what today's prover says (docs/PORT.md).
 
-  tools/wants.py CRATE..             after .ci/reasons CRATE.., from target/reasons: shows each want that is not met, and what it would become
-  tools/wants.py --write CRATE..     and writes it
+  tools/wants.py CRATE..             after .ci/reasons CRATE..: shows each want of a must-fail edit that is not met, and what it would become
+  tools/wants.py wrong CRATE..       after .ci/wrong-statements CRATE..: the same of crates/CRATE/wrong
+  tools/wants.py weakened            after .ci/weakened: the same of crates/promises/weakened
+  tools/wants.py --write ..          and writes it
 
 A want that is not met is first respelled as today's Rattle spells names and terms. Where that is not met either, it becomes the core of the
 thing, among those that the prover says of its function, that is most like it: the two values that differ, or the values at which a goal
@@ -37,16 +39,17 @@ CORES = [
 LONGEST = 260
 
 
-def respelled(text):
+def respelled(text, lemmas=False):
     """A want in today's spelling of terms, as far as that goes."""
     for old, new in (("Rattle·", "Rattle."), ("·specs.specs.", ".specs."), ("·proofs.proofs.", ".proofs."), (".the-variants.", ".TheVariants."),
                      ("lib.ListN.getD", "lib.ListN.get_or"), ("_≡_", "◌≡◌")):
         text = text.replace(old, new)
     text = re.sub(r"_([-+*/%^<≤&|]{1,2})_", r"◌\1◌", text)
     text = re.sub(r"\bc(?: \.before)+(?= \.)", "c", text)
-    text = re.sub(r"(?<=[\w'}]) \.(?=[a-z0-9])", ".", text)
-    text = re.sub(r"\((c(?:\.[\w-]+)+)\)", r"\1", text)
-    return re.sub(r"(?<![\w`])[a-z]+[A-Z]\w*", lambda it: re.sub(r"([a-z0-9])([A-Z])", lambda k: k[1] + "_" + k[2].lower(), it[0]), text)
+    text = re.sub(r"(?<=[\w'})]) \.(?=[a-z0-9])", ".", text)
+    text = re.sub(r"\((\w+(?:\.[\w-]+)+)\)", r"\1", text)
+    text = re.sub(r"(?<=error: `)[\w-]+(?=`)|^`[\w-]+`(?=:)", lambda it: it[0].replace("-", "_").lower(), text) if lemmas else text
+    return re.sub(r"(?<!\w)[a-z]+[A-Z]\w*", lambda it: re.sub(r"([a-z0-9])([A-Z])", lambda k: k[1] + "_" + k[2].lower(), it[0]), text)
 
 
 def core(thing):
@@ -69,26 +72,35 @@ def likeness(one, other):
     return difflib.SequenceMatcher(None, *words, autojunk=False).ratio()
 
 
-def turned(edit, log):
-    """The lines of an edit with its wants turned, and what was turned."""
-    of, whole = reasons.errors(log), reasons.unbroken(log)
+def whole_core(thing):
+    """The core of a thing that is said of no function: with the name of what is refused."""
+    name = re.search(r"error: `[^`]*`:", thing)
+    rank, text = core(thing)
+    if name and text in thing[name.start():]:
+        text = thing[name.start():thing.index(text, name.start()) + len(text)]
+    return rank, text if len(text) <= LONGEST else text[:LONGEST].rsplit(" ", 1)[0]
+
+
+def turned(edit, of, every):
+    """The lines of an edit with its wants turned, and what was turned; from the things that are said of each function, and all of them."""
+    whole = " ".join(every)
     lines, changes, taken = edit.read_text().splitlines(), [], {}
     for number, line in enumerate(lines):
         want = re.match(r"want(?: (\S+))?: (.*\S)\s*$", line)
         if not want:
             continue
-        things = [reasons.unbroken(it) for it in of.get(want[1], [])] if want[1] else [reasons.unbroken(it) for its in of.values() for it in its]
+        things, form = (of.get(want[1], []), core) if want[1] else (every, whole_core)
         met = lambda text: any(text in it for it in things) if want[1] else text in whole
         text = reasons.unbroken(want[2])
         if met(text):
             continue
-        new = respelled(text)
+        new = respelled(text, not want[1])
         if met(new):
-            taken.setdefault(want[1], set()).update(core(it)[1] for it in things if new in it)
+            taken.setdefault(want[1], set()).update(form(it)[1] for it in things if new in it)
         else:
-            if not want[1]:
-                things = [reasons.unbroken(it) for it in re.split(r"\n(?=\S)", log) if re.match(r"\S+: error: ", it)]
-            cores = {core(it): it for it in things if not NO_REASON.search(it)}
+            name = re.search(r"(?:error: |^)`([\w-]+)`:", new)
+            named = [it for it in things if name and f"error: `{name[1]}`" in it]
+            cores = {form(it): it for it in named or things if not NO_REASON.search(it)}
             best = sorted((it for it in cores if it[1]), key=lambda it: (it[1] in taken.get(want[1], ()), -likeness(new, cores[it]) + it[0] / 20))
             if not best:
                 changes.append((line, None))
@@ -100,16 +112,37 @@ def turned(edit, log):
     return lines, changes
 
 
-def main():
-    writes, crates = "--write" in sys.argv[1:], [it for it in sys.argv[1:] if it != "--write"]
-    for edit in sorted(ROOT.glob("crates/*/must-fail/*.edit")):
+def told(words):
+    """Each edit of a kind, with what is said of each function, and all things that are said."""
+    kind, crates = (words[0], words[1:]) if words and words[0] in ("wrong", "weakened") else ("must-fail", words)
+    for edit in sorted(ROOT.glob(f"crates/*/{kind}/*.edit")):
         crate = edit.parts[-3]
-        log = ROOT / "target/reasons" / crate / f"{edit.stem}.log"
-        if crates and crate not in crates or not log.is_file():
+        if crates and crate not in crates:
             continue
-        lines, changes = turned(edit, log.read_text())
+        if kind == "must-fail":
+            log = ROOT / "target/reasons" / crate / f"{edit.stem}.log"
+            text = log.read_text() if log.is_file() else ""
+            of = {name: [reasons.unbroken(it) for it in its] for name, its in reasons.errors(text).items()}
+            yield edit, of, [reasons.unbroken(it) for it in re.split(r"\n(?=\S)", text)]
+        elif kind == "weakened":
+            log = ROOT / "target/weakened" / edit.stem / "promises.log"
+            text = log.read_text() if log.is_file() else ""
+            yield edit, {}, [reasons.unbroken(it) for it in re.split(r"\n(?=\S)", text)]
+        elif crate in ("promises", "examples"):
+            log = ROOT / "target/wrong-statements" / f"{crate}.log"
+            number = sorted((ROOT / "crates" / crate / "wrong").glob("*.edit")).index(edit)
+            text = re.sub(rf"Rattle\.wrong\.specs\.E{number}\.", f"Rattle.{crate}.specs.", log.read_text() if log.is_file() else "")
+            yield edit, {}, [reasons.unbroken(it) for it in re.split(r"\n(?=\S)", text) if re.match(rf"\./specs/E{number}/", it)]
+
+
+def main():
+    writes, words = "--write" in sys.argv[1:], [it for it in sys.argv[1:] if it != "--write"]
+    for edit, of, every in told(words):
+        if not any(every):
+            continue
+        lines, changes = turned(edit, of, every)
         for old, new in changes:
-            print(f"{crate}/{edit.stem}\n  - {old}\n  + {new or 'NOTHING IS SAID OF IT'}")
+            print(f"{edit.parts[-3]}/{edit.stem}\n  - {old}\n  + {new or 'NOTHING IS SAID OF IT'}")
         if writes and changes:
             edit.write_text("\n".join(lines) + "\n")
 
