@@ -9,7 +9,8 @@
 # make help       this text
 #
 # Building needs the Rattle kit (rt) and make alone; compare and bench need cargo and a C compiler too; check says what it needs. The
-# product is for x86-64. On another machine the kit's emulator runs it here, and bench times its code compiled for that machine.
+# product is for x86-64, and so is the kit. On another machine an emulator (Debian's qemu-user) runs what was made on such a one, and bench
+# times its code compiled for that machine, where a kit has a compiler there.
 
 PREFIX = /usr/local
 DESTDIR =
@@ -29,8 +30,9 @@ archive = target/staticlib/libfrundavel.a
 # the call worked in rows, for the comparison of both layouts
 rows = target/staticlib/librows.a
 shared = target/lib/libfrundavel.so.$(VERSION)
-# what a build can depend on: not the wrong programs, definitions and contracts that the gate tries
-sources := crates.txt $(shell find crates \( -name must-fail -o -name wrong -o -name weakened \) -prune -o -type f -print)
+# what a build can depend on: not the wrong programs, definitions and contracts that the gate tries, nor what rt made
+sources := crates.txt $(shell find crates \( -name must-fail -o -name wrong -o -name weakened -o -name out \) -prune -o -type f -print)
+build = program/build program/kit .ci/prover.py
 
 bindir = $(PREFIX)/bin
 includedir = $(PREFIX)/include
@@ -65,8 +67,6 @@ plain-folders = $(if $(odd-folder),$(error make $@: $(odd-folder) has one of the
 # rt works on one thing at a time in a folder
 .NOTPARALLEL:
 .DELETE_ON_ERROR:
-# kept, as .PRECIOUS would keep it, but taken away where it is half written
-.SECONDARY: target/staticlib/liballot.a target/staticlib/libcutting.a target/staticlib/libmoves.a target/staticlib/libladder.a target/staticlib/libsheet.a
 
 sample: $(program)
 	$(RUN) $(program) examples/listing.book
@@ -92,17 +92,18 @@ bench: $(archive) $(rows)
 	if [ "$$(uname -m)" = x86_64 ]; then $(cargo) --bin bench -- $(BENCH); \
 	else harness/native/make && FRUNDAVEL_ARCHIVE=target/native $(cargo) --bin bench -- $(BENCH); fi
 
-target/staticlib/lib%.a: $(sources) program/archive
+# an archive for C is that of a thin crate over the library of its name
+target/staticlib/lib%.a: $(sources) $(build)
 	$(need-rt)
-	program/archive $*
+	program/build $*_c $@
 
-$(cutback): target/staticlib/libcutting.a program/main.c program/link program/kit
+$(cutback): $(sources) $(build)
 	$(need-rt)
-	program/link cutting cutback
+	program/build cutting $@
 
-target/bin/%: target/staticlib/lib%.a program/main.c program/link program/kit
+target/bin/%: $(sources) $(build)
 	$(need-rt)
-	program/link $*
+	program/build $* $@
 
 $(shared): $(archive) include/frundavel.h program/share program/kit
 	$(need-rt)

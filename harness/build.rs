@@ -1,4 +1,4 @@
-//! Links the product's archives, which `rt staticlib` writes. They are for x86-64; elsewhere src/elsewhere.rs stands in for them, unless
+//! Links the product's archives, which make writes. They are for x86-64; elsewhere src/elsewhere.rs stands in for them, unless
 //! FRUNDAVEL_ARCHIVE names the folder of another (harness/native).
 
 use std::env;
@@ -20,7 +20,7 @@ fn main() {
         println!("cargo:rerun-if-changed={}", archive.display());
         assert!(
             archive.exists(),
-            "no archive to link: run `rt staticlib {name}` first"
+            "no archive to link: run `make target/staticlib/lib{name}.a` first"
         );
         println!("cargo:rustc-link-lib=static={name}");
     }
