@@ -1,9 +1,6 @@
--- `shell::ask_from` meets its contract: the word that a turn looks at is one from `first` on, and no other place is ever told.
+-- The word that a turn looks at is one from `first` on, and no other place is ever told.
 -- Assumes nothing.
-use Prim.Native.Nat.{ℕ, ◌-◌, ◌≤◌}
-use mathlib.Core.Path.{sym, subst}
-use mathlib.Core.Bool.{Bool, true, false, cond}
-use native.Mathlib.Omega.{arith}
+use Rattle.std.proofs.Common.{ℕ, ◌≤◌, ◌<◌, ◌≡◌, sym, subst, Bool, true, false, cond, arith}
 use Rattle.command.specs.declared.Word.{Word}
 use Rattle.command.specs.declared.Word.TheVariants.{Help, Version, Dash, Ends, Option, File}
 use Rattle.command.specs.declared.Seen.{Seen}
@@ -12,14 +9,7 @@ use Rattle.command.specs.declared.Asked.TheVariants.{Nothing, Named, Usage, Numb
 use Rattle.command.specs.declared.Asked.TheVariants.{Input as StandardInput}
 use Rattle.command.specs.Asked.{settled_of, operand_of, meant_of, step_of}
 use Rattle.shell.specs.Shell.{Took, Within, Among}
-use Rattle.shell.proofs.ask_from.Statement.{statement}
-use Rattle.shell.proofs.ask_from.Tie as tie
-
-abbrev invariant-loop : tie.invariant-loop
-invariant-loop first count seen₀ i₀ seen i = Among first count seen.asked × (first ≤ i)
-
-abbrev decreases-loop : tie.decreases-loop
-decreases-loop first count seen₀ i₀ seen i = count - i
+use Rattle.shell.proofs.ask_from.Goals as goal
 
 cond_both : {X : Type 0} (P : X → Type 0) (b : Bool) {x y : X} → P x → P y → P (cond b x y)
 cond_both P true p q = p
@@ -48,27 +38,6 @@ module _ (first count i : ℕ) (h : Within first count i) where
       subst (λ (x : Seen). Among first count x.asked) (sym e)
       (cond_both (λ (x : Seen). Among first count x.asked) (settled_of s.asked) a (step s (meant_of w s.ended) a))
 
-loop-holds : tie.Need-loop-init invariant-loop decreases-loop
-loop-holds c = (tt, omega arith)
-
-take-requires : tie.Need-take-requires invariant-loop decreases-loop
-take-requires c κs = tt
-
-add-i : tie.Need-overflow-add-i invariant-loop decreases-loop
-add-i c = omega arith
-
-loop-less : tie.Need-loop-smaller invariant-loop decreases-loop
-loop-less c = omega arith
-
-loop-again : tie.Need-loop-preserved invariant-loop decreases-loop
-loop-again c =
-    let l = c.before.before in
-    (took l.before.args.first l.before.args.count l.loop.i (omega arith, omega arith) l.loop.seen c.take.result c.take.ensures l.loop.invariant.0, omega arith)
-
-returns : tie.Need-returns invariant-loop decreases-loop
-returns c = c.before.loop.invariant.0
-
-pub ask-from-spec : {M : Type 1} → statement M
-ask-from-spec =
-    tie.close
-    (tie.spec invariant-loop decreases-loop loop-holds take-requires add-i loop-less loop-again returns)
+pub loop-i-preserved : goal.loop-i-preserved
+loop-i-preserved c =
+    took c.args.first c.args.count c.loop-i.i (c.loop-i.auto.i, c.loop-i-test.true) c.loop-i.seen c.take-seen.result c.take-seen.ensures c.loop-i.invariant
