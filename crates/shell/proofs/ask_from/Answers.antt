@@ -1,6 +1,6 @@
 -- The word that a turn looks at is one from `first` on, and no other place is ever told.
 -- Assumes nothing.
-use Rattle.std.proofs.Common.{ℕ, ◌≤◌, ◌<◌, ◌≡◌, sym, subst, Bool, true, false, cond, arith}
+use Rattle.std.proofs.Common.{ℕ, sym, subst, Bool, true, false, cond}
 use Rattle.command.specs.declared.Word.{Word}
 use Rattle.command.specs.declared.Word.TheVariants.{Help, Version, Dash, Ends, Option, File}
 use Rattle.command.specs.declared.Seen.{Seen}

@@ -1,6 +1,5 @@
 -- No place is told but that of a word from `first` on.
 -- Assumes nothing.
-use Rattle.std.proofs.Common.{◌≤◌}
 use Rattle.shell.specs.Shell.{Among}
 use Rattle.shell.proofs.ask_from.Given as goal
 
