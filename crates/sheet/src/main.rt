@@ -12,6 +12,7 @@ ghost use Rattle.sheet.specs.Told.{status_of, said_of, Ends, Low, Exit};
 use command::Word;
 use rules::refusal;
 use shell::Input;
+use std::process::ExitCode;
 
 // One byte more than a sheet or a book may have, so that a longer one is told.
 const MOST_READ: usize = rules::LONGEST_BOOK + 1;
@@ -21,6 +22,9 @@ const ROOM: usize = 120_000;
 
 // A buffer that the line of every refusal fits.
 const SAID_ROOM: usize = 256;
+
+// Room for a word: the front of a longer one says whether it is an option.
+const NAME_ROOM: usize = 4096;
 
 // What the first word asks for.
 #[derive(Clone, Copy)]
@@ -90,23 +94,24 @@ fn spelling_of(word: &[u8]) -> Spelling
 }
 
 // What the word at place 1 asks for, and the one at place 2.
-fn first_word() -> Task {
-    let mut word = io::buffer();
-    let n = shell::word_at(1, &mut word);
+fn first_word(rt: &HostRuntime) -> Task {
+    let mut word = [0u8; NAME_ROOM];
+    let n = shell::word_at(rt, 1, &mut word);
     task_of(&word[..n])
 }
 
-fn second_word() -> Spelling {
-    let mut word = io::buffer();
-    let n = shell::word_at(2, &mut word);
+fn second_word(rt: &HostRuntime) -> Spelling {
+    let mut word = [0u8; NAME_ROOM];
+    let n = shell::word_at(rt, 2, &mut word);
     spelling_of(&word[..n])
 }
 
 // The input that the words from place `first` on ask for.
-fn begin(first: usize, buffer: &mut [u8]) -> Input
+fn begin(rt: &HostRuntime, first: usize, buffer: &mut [u8]) -> Input
     ensures { Came result (length buffer.old) }
 {
     shell::begin_from(
+        rt,
         first,
         b"sheet",
         b"Usage: sheet read [FILE]\n       sheet write comma [FILE]\n       sheet write point [FILE]\nWrites the book of the sheet in FILE, or the sheet of the book in FILE in the\nmark that is named. Standard input is read where there is no FILE or it is -.\n\n  --help     print this and end\n  --version  print the version and end\n\nThe status is 0 where the book is accepted, 1 where the sheet or the book is\nrefused, and 2 where the words are wrong or a read or a write fails.\n",
@@ -135,7 +140,7 @@ fn say(number: u64, place: u64, book: &[u8], words: &mut [u8]) -> Said
 }
 
 // Writes the book of a sheet; refused or not, all of it that is made.
-fn read_sheet(sheet: &[u8]) -> u32
+fn read_sheet(rt: &HostRuntime, sheet: &[u8]) -> u32
     ensures { Ends (to_book sheet.now 120000).number result }
 {
     let mut book = [0u8; ROOM];
@@ -144,11 +149,11 @@ fn read_sheet(sheet: &[u8]) -> u32
     let n = found.length as usize;
     let said = say(found.number, found.place, &book[..n], &mut words);
     let length = said.length;
-    shell::finish(b"sheet", &book[..n], &words[..length], said.status)
+    shell::finish(rt, b"sheet", &book[..n], &words[..length], said.status)
 }
 
 // Writes the sheet of a book.
-fn write_sheet(book: &[u8], mark: u8) -> u32
+fn write_sheet(rt: &HostRuntime, book: &[u8], mark: u8) -> u32
     ensures { Ends (to_sheet book.now mark 120000).number result }
 {
     let mut sheet = [0u8; ROOM];
@@ -157,73 +162,77 @@ fn write_sheet(book: &[u8], mark: u8) -> u32
     let n = found.length as usize;
     let said = say(found.number, found.place, book, &mut words);
     let length = said.length;
-    shell::finish(b"sheet", &sheet[..n], &words[..length], said.status)
+    shell::finish(rt, b"sheet", &sheet[..n], &words[..length], said.status)
 }
 
 // `sheet read`, with the words behind it.
-fn run_read() -> u32
+fn run_read(rt: &HostRuntime) -> u32
     ensures { Low result }
 {
     let mut buffer = [0u8; MOST_READ];
-    match begin(2, &mut buffer) {
-        Input::Bytes(n) => read_sheet(&buffer[..n]),
+    match begin(rt, 2, &mut buffer) {
+        Input::Bytes(n) => read_sheet(rt, &buffer[..n]),
         Input::Ended(status) => status,
     }
 }
 
 // `sheet write` with its mark, and the words behind them.
-fn run_write(mark: u8) -> u32
+fn run_write(rt: &HostRuntime, mark: u8) -> u32
     ensures { Low result }
 {
     let mut buffer = [0u8; MOST_READ];
-    match begin(3, &mut buffer) {
-        Input::Bytes(n) => write_sheet(&buffer[..n], mark),
+    match begin(rt, 3, &mut buffer) {
+        Input::Bytes(n) => write_sheet(rt, &buffer[..n], mark),
         Input::Ended(status) => status,
     }
 }
 
 // Words of which the one at place `first` is an option: they ask for no input.
-fn run_option(first: usize) -> u32
+fn run_option(rt: &HostRuntime, first: usize) -> u32
     ensures { Low result }
 {
     let mut buffer = [0u8; 1];
-    match begin(first, &mut buffer) {
+    match begin(rt, first, &mut buffer) {
         Input::Bytes(_) => shell::FAILED,
         Input::Ended(status) => status,
     }
 }
 
-fn run_marked(count: usize) -> u32
+fn run_marked(rt: &HostRuntime, count: usize) -> u32
     ensures { Low result }
 {
     if count < 3 {
-        return shell::misused(b"sheet", 1, b": neither comma nor point");
+        return shell::misused(rt, b"sheet", 1, b": neither comma nor point");
     }
-    match second_word() {
-        Spelling::In(mark) => run_write(mark),
-        Spelling::Option => run_option(2),
-        Spelling::Other => shell::misused(b"sheet", 2, b": neither comma nor point"),
+    match second_word(rt) {
+        Spelling::In(mark) => run_write(rt, mark),
+        Spelling::Option => run_option(rt, 2),
+        Spelling::Other => shell::misused(rt, b"sheet", 2, b": neither comma nor point"),
     }
 }
 
-fn run(count: usize) -> u32
+fn run(rt: &HostRuntime, count: usize) -> u32
     ensures { Low result }
 {
     if count < 2 {
-        return shell::misused(b"sheet", 1, b"neither read nor write");
+        return shell::misused(rt, b"sheet", 1, b"neither read nor write");
     }
-    match first_word() {
-        Task::Read => run_read(),
-        Task::Write => run_marked(count),
-        Task::Option => run_option(1),
-        Task::Other => shell::misused(b"sheet", 1, b": neither read nor write"),
+    match first_word(rt) {
+        Task::Read => run_read(rt),
+        Task::Write => run_marked(rt, count),
+        Task::Option => run_option(rt, 1),
+        Task::Other => shell::misused(rt, b"sheet", 1, b": neither read nor write"),
     }
 }
 
 // The status is 0, 1 or 2.
-#[unsafe(no_mangle)]
-pub extern "C" fn frundavel_main() -> i32
+pub fn frundavel_main(rt: &HostRuntime) -> i32
     ensures { Exit result }
 {
-    run(os::arg_count()) as i32
+    run(rt, shell::word_count(rt)) as i32
+}
+
+// The runtime is what the program has of the system, and its status is that of the process.
+fn main(rt: HostRuntime) -> ExitCode {
+    ExitCode::from(frundavel_main(&rt) as u8)
 }

@@ -15,6 +15,7 @@ ghost use Rattle.moves.specs.Sizes.{listing_room};
 use intake::Long;
 use listing::put_days;
 use rules::refusal;
+use std::process::ExitCode;
 
 // So many bytes of a list are kept: those behind them matter only through their line feeds.
 const FRONT: usize = 60_000;
@@ -62,7 +63,7 @@ fn tell(front: &[u8], total: usize, spans: &mut [u8], out: &mut [u8], words: &mu
 }
 
 // Tells of a list.
-fn answer(front: &[u8], total: usize) -> u32
+fn answer(rt: &HostRuntime, front: &[u8], total: usize) -> u32
     requires { feeds front.now ≤ total }
     ensures { Ends (verdict_of false total front.now) result }
 {
@@ -72,22 +73,27 @@ fn answer(front: &[u8], total: usize) -> u32
     let told = tell(front, total, &mut spans, &mut out, &mut words);
     let listed = told.listed;
     let said = told.said;
-    shell::finish(b"moves", &out[..listed], &words[..said], told.status)
+    shell::finish(rt, b"moves", &out[..listed], &words[..said], told.status)
 }
 
 // The status is 0, 1 or 2.
-#[unsafe(no_mangle)]
-pub extern "C" fn frundavel_main() -> i32
+pub fn frundavel_main(rt: &HostRuntime) -> i32
     ensures { Exit result }
 {
     let mut buffer = [0u8; FRONT];
     match intake::begin(
+        rt,
         b"moves",
         b"Usage: moves [FILE]\nPrints the days on which Article 12 or 13 is met, of the list in FILE, or on\nstandard input where there is no FILE or it is -.\n\n  --help     print this and end\n  --version  print the version and end\n\nThe status is 0 where the list is accepted, 1 where it is refused, and 2\nwhere the words are wrong or a read or a write fails.\n",
         b"moves 0.11.1\n",
         &mut buffer,
     ) {
-        Long::Bytes { front, total } => answer(&buffer[..front], total) as i32,
+        Long::Bytes { front, total } => answer(rt, &buffer[..front], total) as i32,
         Long::Ended(status) => status as i32,
     }
+}
+
+// The runtime is what the program has of the system, and its status is that of the process.
+fn main(rt: HostRuntime) -> ExitCode {
+    ExitCode::from(frundavel_main(&rt) as u8)
 }

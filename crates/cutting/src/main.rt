@@ -15,6 +15,7 @@ use answers::Answer;
 use printing::{put_refusal, put_worded};
 use rules::{Figure, Form, refusal};
 use shell::Input;
+use std::process::ExitCode;
 use writing::{put_byte, put_bytes};
 
 // One byte more than an input may have, so that a longer one is told.
@@ -207,7 +208,7 @@ fn tell(input: &[u8], out: &mut [u8], words: &mut [u8]) -> Told
 }
 
 // Tells of an input.
-fn answer(input: &[u8]) -> u32
+fn answer(rt: &HostRuntime, input: &[u8]) -> u32
     ensures { Ends (verdict input.now) result }
 {
     let mut out = [0u8; ROOM];
@@ -215,22 +216,27 @@ fn answer(input: &[u8]) -> u32
     let told = tell(input, &mut out, &mut words);
     let listed = told.listed;
     let said = told.said;
-    shell::finish(b"cutback", &out[..listed], &words[..said], told.status)
+    shell::finish(rt, b"cutback", &out[..listed], &words[..said], told.status)
 }
 
 // The status is 0, 1 or 2.
-#[unsafe(no_mangle)]
-pub extern "C" fn frundavel_main() -> i32
+pub fn frundavel_main(rt: &HostRuntime) -> i32
     ensures { Exit result }
 {
     let mut buffer = [0u8; MOST_READ];
     match shell::begin(
+        rt,
         b"cutback",
         b"Usage: cutback [FILE]\nPrints the lots cut at each seat of a customer over the position limit, from\nthe lines in FILE, or on standard input where there is no FILE or it is -:\nthe type (corporate or individual), the metal (gold or silver), the grams in\none lot, and for each seat its code, a blank and its lots.\n\n  --help     print this and end\n  --version  print the version and end\n\nThe status is 0 where the lines are accepted, 1 where they are refused, and 2\nwhere the words are wrong or a read or a write fails.\n",
         b"cutback 0.11.1\n",
         &mut buffer,
     ) {
-        Input::Bytes(n) => answer(&buffer[..n]) as i32,
+        Input::Bytes(n) => answer(rt, &buffer[..n]) as i32,
         Input::Ended(status) => status as i32,
     }
+}
+
+// The runtime is what the program has of the system, and its status is that of the process.
+fn main(rt: HostRuntime) -> ExitCode {
+    ExitCode::from(frundavel_main(&rt) as u8)
 }

@@ -10,6 +10,7 @@ ghost use Rattle.allot.specs.Told.{status_of, said_of, Ends, Exit};
 
 use rules::refusal;
 use shell::Input;
+use std::process::ExitCode;
 
 // One byte more than a book may have, so that a longer one is told.
 const MOST_READ: usize = rules::LONGEST_BOOK + 1;
@@ -50,7 +51,7 @@ fn tell(book: &[u8], out: &mut [u8], words: &mut [u8]) -> Told
 }
 
 // Tells of a book.
-fn answer(book: &[u8]) -> u32
+fn answer(rt: &HostRuntime, book: &[u8]) -> u32
     ensures { Ends (judge book.now) result }
 {
     let mut out = [0u8; allotment::LISTING_ROOM];
@@ -58,22 +59,27 @@ fn answer(book: &[u8]) -> u32
     let told = tell(book, &mut out, &mut words);
     let listed = told.listed;
     let said = told.said;
-    shell::finish(b"allot", &out[..listed], &words[..said], told.status)
+    shell::finish(rt, b"allot", &out[..listed], &words[..said], told.status)
 }
 
 // The status is 0, 1 or 2.
-#[unsafe(no_mangle)]
-pub extern "C" fn frundavel_main() -> i32
+pub fn frundavel_main(rt: &HostRuntime) -> i32
     ensures { Exit result }
 {
     let mut buffer = [0u8; MOST_READ];
     match shell::begin(
+        rt,
         b"allot",
         b"Usage: allot [FILE]\nPrints the forced offsetting allotment of the book in FILE, or on standard\ninput where there is no FILE or it is -.\n\n  --help     print this and end\n  --version  print the version and end\n\nThe status is 0 where the book is accepted, 1 where it is refused, and 2\nwhere the words are wrong or a read or a write fails.\n",
         b"allot 0.11.1\n",
         &mut buffer,
     ) {
-        Input::Bytes(n) => answer(&buffer[..n]) as i32,
+        Input::Bytes(n) => answer(rt, &buffer[..n]) as i32,
         Input::Ended(status) => status as i32,
     }
+}
+
+// The runtime is what the program has of the system, and its status is that of the process.
+fn main(rt: HostRuntime) -> ExitCode {
+    ExitCode::from(frundavel_main(&rt) as u8)
 }
