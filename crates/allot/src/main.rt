@@ -26,7 +26,9 @@ pub struct Told {
     pub said: usize,
 }
 
-// The listing, the words and the status of a book. Nothing is read or written here.
+// The listing, the words and the status of a book. Nothing is read or written here. What it takes of the stack is given back before
+// anything is written.
+#[inline(never)]
 fn tell(book: &[u8], out: &mut [u8], words: &mut [u8]) -> Told
     requires in_bounds { 8192 ≤ length out.old }
     requires in_bounds_2 { 256 ≤ length words.old }

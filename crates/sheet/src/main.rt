@@ -23,8 +23,8 @@ const ROOM: usize = 120_000;
 // A buffer that the line of every refusal fits.
 const SAID_ROOM: usize = 256;
 
-// Room for a word: the front of a longer one says whether it is an option.
-const NAME_ROOM: usize = 4096;
+// Room for the front of a word by which it is known: every word that is asked for is shorter.
+const FRONT_ROOM: usize = 16;
 
 // What the first word asks for.
 #[derive(Clone, Copy)]
@@ -95,13 +95,13 @@ fn spelling_of(word: &[u8]) -> Spelling
 
 // What the word at place 1 asks for, and the one at place 2.
 fn first_word(rt: &HostRuntime) -> Task {
-    let mut word = [0u8; NAME_ROOM];
+    let mut word = [0u8; FRONT_ROOM];
     let n = shell::word_at(rt, 1, &mut word);
     task_of(&word[..n])
 }
 
 fn second_word(rt: &HostRuntime) -> Spelling {
-    let mut word = [0u8; NAME_ROOM];
+    let mut word = [0u8; FRONT_ROOM];
     let n = shell::word_at(rt, 2, &mut word);
     spelling_of(&word[..n])
 }

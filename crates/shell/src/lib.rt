@@ -38,6 +38,9 @@ pub const FAILED: u32 = 2;
 // Room for a name and the 0 behind it: no path is longer.
 const NAME_ROOM: usize = 4096;
 
+// Room for the front of a word by which it is known: every option that a program has is shorter.
+const FRONT_ROOM: usize = 16;
+
 // Room for the words of an error.
 const WORDS_ROOM: usize = 256;
 
@@ -369,14 +372,24 @@ fn read_file(rt: &HostRuntime, program: &[u8], i: usize, buffer: &mut [u8]) -> I
     }
 }
 
-// Reads a file that is open, and that the word at place i names.
+// Reads a file that is open, and that the word at place i names. Where that fails the buffer has room for the name once more.
 fn read_open(rt: &HostRuntime, program: &[u8], mut file: File, i: usize, buffer: &mut [u8]) -> Input
     ensures { Taken result (length buffer.old) }
 {
-    let mut path = [0u8; NAME_ROOM];
-    let n = word_at(rt, i, &mut path);
-    make_visible(&mut path);
-    read_from(rt, program, &mut file, &path[..n], buffer)
+    match read_whole(&mut file, buffer) {
+        Got::Read(n) => Input::Bytes(n),
+        Got::Failed(why) => Input::Ended(unread(rt, program, i, buffer, why)),
+    }
+}
+
+// Says why the file that the word at place i names cannot be read.
+fn unread(rt: &HostRuntime, program: &[u8], i: usize, buffer: &mut [u8], why: Error) -> u32
+    ensures { result ≡ failed }
+{
+    let most = name_room(buffer.len());
+    let n = word_at(rt, i, &mut buffer[..most]);
+    make_visible(&mut buffer[..n]);
+    failed(rt, program, &buffer[..n], why)
 }
 
 // What is asked for after the word at place i.
@@ -387,7 +400,7 @@ fn take(rt: &HostRuntime, seen: Seen, i: usize) -> Seen
     if command::settled(asked) {
         return seen;
     }
-    let mut word = [0u8; NAME_ROOM];
+    let mut word = [0u8; FRONT_ROOM];
     let n = word_at(rt, i, &mut word);
     command::next(seen, command::word_of(&word[..n]), i)
 }
