@@ -4,6 +4,7 @@
 
 ghost use Rattle.std.specs.Prelude.{◌≡◌, ◌≤◌, length, take};
 ghost use Rattle.days.specs.Lines.{feeds};
+ghost use Rattle.shell.specs.Shell.{Untouched};
 ghost use Rattle.intake.specs.Long.{LongCame, Counts, ended_as};
 
 use command::Asked;
@@ -117,6 +118,21 @@ pub fn begin(
     ensures { LongCame result buffer.new }
 {
     let asked = shell::ask(rt, shell::word_count(rt));
+    begin_as(rt, asked, program, help, version, buffer)
+}
+
+// The same, by what the words ask for: those that ask for no input leave the buffer as it was.
+fn begin_as(
+    rt: &HostRuntime,
+    asked: Asked,
+    program: &[u8],
+    help: &[u8],
+    version: &[u8],
+    buffer: &mut [u8],
+) -> Long
+    ensures came { LongCame result buffer.new }
+    ensures untouched { Untouched asked buffer.old buffer.new }
+{
     match asked {
         Asked::Nothing => long_from(rt, program, &mut rt.stdin(), b"standard input", buffer),
         Asked::Input => long_from(rt, program, &mut rt.stdin(), b"standard input", buffer),

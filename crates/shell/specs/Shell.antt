@@ -79,6 +79,16 @@ Begun Number r room = Printed r
 Begun (Unknown i) r room = r ≡ Ended failed
 Begun (Second i) r room = r ≡ Ended failed
 
+-- words that ask for no input leave the buffer as it was
+abbrev pub Untouched : Asked → List ℕ → List ℕ → Type 0
+Untouched Nothing entry exit = Unit
+Untouched StandardInput entry exit = Unit
+Untouched (Named i) entry exit = Unit
+Untouched Usage entry exit = exit ≡ entry
+Untouched Number entry exit = exit ≡ entry
+Untouched (Unknown i) entry exit = exit ≡ entry
+Untouched (Second i) entry exit = exit ≡ entry
+
 -- and whatever they ask for
 abbrev pub Came : Input → ℕ → Type 0
 Came (Bytes n) room = n ≤ room

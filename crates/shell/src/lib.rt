@@ -14,6 +14,7 @@ ghost use Rattle.shell.specs.Shell.{
   Took,
   Among,
   Begun,
+  Untouched,
   Came,
   ended_by,
   visible,
@@ -435,7 +436,8 @@ pub fn begin_as(
     version: &[u8],
     buffer: &mut [u8],
 ) -> Input
-    ensures { Begun asked result (length buffer.old) }
+    ensures begun { Begun asked result (length buffer.old) }
+    ensures untouched { Untouched asked buffer.old buffer.new }
 {
     match asked {
         Asked::Nothing => read_from(rt, program, &mut rt.stdin(), b"standard input", buffer),
