@@ -4,11 +4,11 @@
      writes    a write takes at most 5 bytes
      unread    standard input breaks off with an error after 20 bytes
      full      standard output takes 10 bytes and is full then
-     close     closing standard output fails */
+     close     closing standard output fails, and so does handing its file over to the device, by which a program can learn of that too */
 
 typedef unsigned long size;
 
-enum { READ = 0, WRITE = 1, CLOSE = 3 };
+enum { READ = 0, WRITE = 1, CLOSE = 3, DATASYNC = 75 };
 enum { INTERRUPTED = 4, BROKEN = 5, FULL = 28 };
 
 int *__errno_location(void);
@@ -80,4 +80,11 @@ int close(int which)
     if (which == 1 && fault("close"))
         return (int)failed(BROKEN);
     return (int)told(call(CLOSE, which, 0, 0));
+}
+
+int fdatasync(int which)
+{
+    if (fault("close"))
+        return (int)failed(BROKEN);
+    return (int)told(call(DATASYNC, which, 0, 0));
 }

@@ -13,7 +13,7 @@ use Rattle.intake.specs.declared.Rest.TheVariants.{Feeds, Failed}
 -- no line feed is lost
 abbrev pub Counts : Rest → ℕ → Type 0
 Counts (Feeds total) least = least ≤ total
-Counts Failed least = Unit
+Counts (Failed why) least = Unit
 
 -- the bytes are the buffer's, and their line feeds are among those in all; a status is 0, 1 or 2
 abbrev pub LongCame : Long → List ℕ → Type 0

@@ -1,16 +1,21 @@
 // An input of any length, for programs that read a list of days: its first bytes, and how many line feeds it has in all. What a list comes to
-// depends on nothing else (days_promises, Enough). Of what the C functions do, the kit's contracts say how many bytes moved at most.
+// depends on nothing else (days_promises, Enough). Of a read std says how many bytes moved at most.
 #![tactic(auto)]
 
 ghost use Rattle.std.specs.Prelude.{◌≡◌, ◌≤◌, length, take};
 ghost use Rattle.days.specs.Lines.{feeds};
+ghost use Rattle.shell.specs.Shell.{Untouched};
 ghost use Rattle.intake.specs.Long.{LongCame, Counts, ended_as};
 
 use command::Asked;
 use shell::{Got, Input, Opened};
+use std::io::{Error, ErrorKind, Read};
 
 // No list has more line feeds: with one more all that follows is of no account.
 const MOST_FEEDS: usize = 2_001;
+
+// Room for a name and the 0 behind it: no path is longer.
+const NAME_ROOM: usize = 4096;
 
 // What came: so many bytes at the front of the buffer, and so many line feeds in all; or the program ends here, with a status.
 #[derive(Clone, Copy)]
@@ -23,36 +28,33 @@ pub enum Long {
 #[derive(Clone, Copy)]
 pub enum Rest {
     Feeds(usize),
-    Failed,
+    Failed(Error),
 }
 
 // Reads on until the input ends or no list has so many line feeds; the turns are counted down from a number that no run uses up.
-fn count_rest(fd: i32, feeds: usize) -> Rest
+fn count_rest<R: Read>(from: &mut R, feeds: usize) -> Rest
     ensures { Counts result feeds }
 {
     let mut total = feeds;
-    let mut part = io::buffer();
-    let mut turns = u64::MAX;
-    while turns > 0 {
+    let mut part = [0u8; NAME_ROOM];
+    for _ in 0..u64::MAX {
         if MOST_FEEDS < total {
             return Rest::Feeds(total);
         }
-        let got = shell::read_more(fd, &mut part, 0);
-        if got < 0 {
-            return Rest::Failed;
-        }
-        let n = io::count(got, &part);
+        let n = match shell::read_more(from, &mut part, 0) {
+            Ok(got) => got,
+            Err(why) => return Rest::Failed(why),
+        };
         if n == 0 {
             return Rest::Feeds(total);
         }
         total += days::count_feeds(&part[..n]);
-        turns -= 1;
     }
-    Rest::Failed
+    Rest::Failed(Error::from(ErrorKind::Interrupted))
 }
 
 // The line feeds of an input whose first bytes are in the buffer, which they may have filled.
-fn count_all(fd: i32, buffer: &[u8], front: usize) -> Rest
+fn count_all<R: Read>(from: &mut R, buffer: &[u8], front: usize) -> Rest
     requires { front ≤ length buffer.now }
     ensures { Counts result (feeds (take front buffer.now)) }
 {
@@ -60,29 +62,37 @@ fn count_all(fd: i32, buffer: &[u8], front: usize) -> Rest
     if front < buffer.len() {
         return Rest::Feeds(feeds);
     }
-    count_rest(fd, feeds)
+    count_rest(from, feeds)
 }
 
 // What came from an open input. The name is for what is said where that fails.
-fn long_from(program: &[u8], fd: i32, name: &[u8], buffer: &mut [u8]) -> Long
+fn long_from<R: Read>(
+    rt: &HostRuntime,
+    program: &[u8],
+    from: &mut R,
+    name: &[u8],
+    buffer: &mut [u8],
+) -> Long
     ensures { LongCame result buffer.new }
 {
-    match shell::read_whole(fd, buffer) {
-        Got::Read(front) => match count_all(fd, buffer, front) {
+    match shell::read_whole(from, buffer) {
+        Got::Read(front) => match count_all(from, buffer, front) {
             Rest::Feeds(total) => Long::Bytes { front, total },
-            Rest::Failed => Long::Ended(shell::failed(program, name)),
+            Rest::Failed(why) => Long::Ended(shell::failed(rt, program, name, why)),
         },
-        Got::Failed => Long::Ended(shell::failed(program, name)),
+        Got::Failed(why) => Long::Ended(shell::failed(rt, program, name, why)),
     }
 }
 
 // What came from the file that the word at place i names.
-fn long_file(program: &[u8], i: usize, buffer: &mut [u8]) -> Long
+fn long_file(rt: &HostRuntime, program: &[u8], i: usize, buffer: &mut [u8]) -> Long
     ensures { LongCame result buffer.new }
 {
-    let mut path = io::buffer();
-    match shell::open_named(program, i, &mut path) {
-        Opened::File { fd, name } => long_from(program, fd, &path[..name], buffer),
+    let mut path = [0u8; NAME_ROOM];
+    match shell::open_named(rt, program, i, &mut path) {
+        Opened::File { mut file, name } => {
+            long_from(rt, program, &mut file, &path[..name], buffer)
+        }
         Opened::Ended(status) => Long::Ended(status),
     }
 }
@@ -98,17 +108,38 @@ fn ended(input: Input) -> Long
 }
 
 // A program's first step, as `shell::begin`, with an input of any length.
-pub fn begin(program: &[u8], help: &[u8], version: &[u8], buffer: &mut [u8]) -> Long
+pub fn begin(
+    rt: &HostRuntime,
+    program: &[u8],
+    help: &[u8],
+    version: &[u8],
+    buffer: &mut [u8],
+) -> Long
     ensures { LongCame result buffer.new }
 {
-    let asked = shell::ask(os::arg_count());
+    let asked = shell::ask(rt, shell::word_count(rt));
+    begin_as(rt, asked, program, help, version, buffer)
+}
+
+// The same, by what the words ask for: those that ask for no input leave the buffer as it was.
+fn begin_as(
+    rt: &HostRuntime,
+    asked: Asked,
+    program: &[u8],
+    help: &[u8],
+    version: &[u8],
+    buffer: &mut [u8],
+) -> Long
+    ensures came { LongCame result buffer.new }
+    ensures untouched { Untouched asked buffer.old buffer.new }
+{
     match asked {
-        Asked::Nothing => long_from(program, libc::STDIN_FILENO, b"standard input", buffer),
-        Asked::Input => long_from(program, libc::STDIN_FILENO, b"standard input", buffer),
-        Asked::Named(i) => long_file(program, i, buffer),
-        Asked::Usage => ended(shell::begin_as(asked, program, help, version, buffer)),
-        Asked::Number => ended(shell::begin_as(asked, program, help, version, buffer)),
-        Asked::Unknown(_) => ended(shell::begin_as(asked, program, help, version, buffer)),
-        Asked::Second(_) => ended(shell::begin_as(asked, program, help, version, buffer)),
+        Asked::Nothing => long_from(rt, program, &mut rt.stdin(), b"standard input", buffer),
+        Asked::Input => long_from(rt, program, &mut rt.stdin(), b"standard input", buffer),
+        Asked::Named(i) => long_file(rt, program, i, buffer),
+        Asked::Usage => ended(shell::begin_as(rt, asked, program, help, version, buffer)),
+        Asked::Number => ended(shell::begin_as(rt, asked, program, help, version, buffer)),
+        Asked::Unknown(_) => ended(shell::begin_as(rt, asked, program, help, version, buffer)),
+        Asked::Second(_) => ended(shell::begin_as(rt, asked, program, help, version, buffer)),
     }
 }

@@ -1,8 +1,7 @@
 -- What a program has from its shell, and what it ends with.
 -- Assumes nothing.
-use Rattle.std.specs.Prelude.{ℕ, ◌-◌, ◌≤◌, ◌<◌, ◌≡◌, ◌⊎◌, Bool, cond, List, length, take, get_or, ℤ, eqb, ltb}
+use Rattle.std.specs.Prelude.{ℕ, ◌-◌, ◌≤◌, ◌<◌, ◌≡◌, ◌⊎◌, Bool, cond, List, length, take, get_or, eqb, ltb, Result, IfOk}
 use Prim.Native.Char.{code}
-use Rattle.libc.specs.Io.{Moved}
 use Rattle.command.specs.declared.Word.{Word}
 use Rattle.command.specs.declared.Seen.{Seen}
 use Rattle.command.specs.Asked.{settled_of, meant_of, step_of}
@@ -27,16 +26,16 @@ refused = 1
 abbrev pub failed : ℕ
 failed = 2
 
--- one read into what is left of a buffer behind `done`: -1, or at most as many bytes as are left; those before stay
-pub record More (done : ℕ) (entry exit : List ℕ) (r : ℤ) : Type 0 where
-  pub count : Moved (length entry - done) r
+-- one read into what is left of a buffer behind `done`: an error, or at most as many bytes as are left; those before stay
+pub record More {E : Type 0} (done : ℕ) (entry exit : List ℕ) (r : Result ℕ E) : Type 0 where
+  pub count : IfOk r (λ n. n ≤ length entry - done)
   pub before : take done exit ≡ take done entry
   pub size : length exit ≡ length entry
 
 -- what was read fits the buffer
 abbrev pub Fitting : Got → ℕ → Type 0
 Fitting (Read n) room = n ≤ room
-Fitting Failed room = Unit
+Fitting (Failed why) room = Unit
 
 -- what came from an input fits the buffer; a program whose input fails ends with 2
 abbrev pub Taken : Input → ℕ → Type 0
@@ -45,7 +44,7 @@ Taken (Ended status) room = status ≡ failed
 
 -- a file was opened whose name fits its buffer; a program whose file cannot be opened ends with 2
 abbrev pub Opens : Opened → ℕ → Type 0
-Opens (File fd name) room = name ≤ room
+Opens (File file name) room = name ≤ room
 Opens (OpenEnded status) room = status ≡ failed
 
 -- what is asked for behind the word at place i, whatever it is
@@ -79,6 +78,16 @@ Begun Usage r room = Printed r
 Begun Number r room = Printed r
 Begun (Unknown i) r room = r ≡ Ended failed
 Begun (Second i) r room = r ≡ Ended failed
+
+-- words that ask for no input leave the buffer as it was
+abbrev pub Untouched : Asked → List ℕ → List ℕ → Type 0
+Untouched Nothing entry exit = Unit
+Untouched StandardInput entry exit = Unit
+Untouched (Named i) entry exit = Unit
+Untouched Usage entry exit = exit ≡ entry
+Untouched Number entry exit = exit ≡ entry
+Untouched (Unknown i) entry exit = exit ≡ entry
+Untouched (Second i) entry exit = exit ≡ entry
 
 -- and whatever they ask for
 abbrev pub Came : Input → ℕ → Type 0

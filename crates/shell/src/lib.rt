@@ -1,8 +1,9 @@
 // What every program has with its shell: the words of the command line, an input, an output, what is said on standard error, and a
-// status. Of what the C functions do, the kit's contracts say how many bytes moved at most; that these are the file's is not proved.
+// status. Of a read or a write std says how many bytes moved at most; that these are the file's is not proved.
 #![tactic(auto)]
 
-ghost use Rattle.std.specs.Prelude.{◌≡◌, ◌⊎◌, ◌≤◌, length};
+ghost use Rattle.std.specs.Prelude.{◌≡◌, ◌⊎◌, ◌≤◌, length, drop};
+ghost use Rattle.std.specs.Io.{WritesAtMost};
 ghost use Rattle.laws.specs.Filled.{filled};
 ghost use Rattle.shell.specs.Shell.{
   failed,
@@ -13,6 +14,7 @@ ghost use Rattle.shell.specs.Shell.{
   Took,
   Among,
   Begun,
+  Untouched,
   Came,
   ended_by,
   visible,
@@ -20,6 +22,12 @@ ghost use Rattle.shell.specs.Shell.{
 };
 
 use command::{Asked, Seen};
+use std::env::{Env, FillError};
+use std::fmt::Write as _;
+use std::fs::{File, OpenOptions};
+use std::io::{Error, ErrorKind, Read, Write};
+use std::os::fd::AsFd;
+use std::{fmt, fs, io};
 
 pub const ACCEPTED: u32 = 0;
 
@@ -28,11 +36,30 @@ pub const REFUSED: u32 = 1;
 // The words, the input or the output were wrong.
 pub const FAILED: u32 = 2;
 
+// Room for a name and the 0 behind it: no path is longer.
+const NAME_ROOM: usize = 4096;
+
+// Room for the front of a word by which it is known: every option that a program has is shorter.
+const FRONT_ROOM: usize = 16;
+
+// Room for the words of an error.
+const WORDS_ROOM: usize = 256;
+
+// The numbers that the system has for a word that is missing, a name that is too long and one that is no text.
+const MISSING: i32 = 22;
+
+const TOO_LONG: i32 = 36;
+
+const NO_TEXT: i32 = 84;
+
+// The process's own name for its standard output.
+const OUTPUT: &str = "/proc/self/fd/1";
+
 // What a read came to: so many bytes, which are all of the input or fill the buffer; or it failed.
 #[derive(Clone, Copy)]
 pub enum Got {
     Read(usize),
-    Failed,
+    Failed(Error),
 }
 
 // What a program has to go on with: so many bytes of input; or it ends here, with a status.
@@ -42,44 +69,42 @@ pub enum Input {
     Ended(u32),
 }
 
-// The file that a word names: its descriptor, and the length of its name; or the program ends here, with a status.
-#[derive(Clone, Copy)]
+// The file that a word names, open, and the length of its name; or the program ends here, with a status.
+#[derive(Drop)]
 pub enum Opened {
-    File { fd: i32, name: usize },
+    File { file: File, name: usize },
     Ended(u32),
 }
 
-// One read into the rest of the buffer: -1, or how many bytes came. A read that a signal interrupts is tried again; the turns are
+// One read into the rest of the buffer: how many bytes came, or why none did. A read that a signal interrupts is tried again; the turns are
 // counted down from a number that no run uses up.
-pub fn read_more(fd: i32, buffer: &mut [u8], done: usize) -> isize
+pub fn read_more<R: Read>(from: &mut R, buffer: &mut [u8], done: usize) -> io::Result<usize>
     requires { done ≤ length buffer.old }
     ensures { More done buffer.old buffer.new result }
 {
-    let mut turns = u64::MAX;
-    while turns > 0 {
-        let got = libc::read(fd, &mut buffer[done..]);
-        if got >= 0 {
-            return got;
+    for _ in 0..u64::MAX {
+        match from.read(&mut buffer[done..]) {
+            Ok(got) => return Ok(got),
+            Err(why) => {
+                if why.kind() != ErrorKind::Interrupted {
+                    return Err(why);
+                }
+            }
         }
-        if os::errno() != libc::EINTR {
-            return got;
-        }
-        turns -= 1;
     }
-    -1
+    Err(Error::from(ErrorKind::Interrupted))
 }
 
 // Reads until the input ends or the buffer is full: a read may bring less than was asked for.
-pub fn read_whole(fd: i32, buffer: &mut [u8]) -> Got
+pub fn read_whole<R: Read>(from: &mut R, buffer: &mut [u8]) -> Got
     ensures { Fitting result (length buffer.old) }
 {
     let mut done: usize = 0;
     while done < buffer.len() {
-        let got = read_more(fd, buffer, done);
-        if got < 0 {
-            return Got::Failed;
-        }
-        let n = io::count(got, &buffer[done..]);
+        let n = match read_more(from, buffer, done) {
+            Ok(got) => got,
+            Err(why) => return Got::Failed(why),
+        };
         if n == 0 {
             return Got::Read(done);
         }
@@ -88,36 +113,35 @@ pub fn read_whole(fd: i32, buffer: &mut [u8]) -> Got
     Got::Read(done)
 }
 
-// One write of the rest of the bytes: -1, or how many were taken.
-fn write_more(fd: i32, bytes: &[u8], done: usize) -> isize
+// One write of the rest of the bytes: how many were taken, or why none were.
+fn write_more<W: Write>(to: &mut W, bytes: &[u8], done: usize) -> io::Result<usize>
     requires { done ≤ length bytes.now }
+    ensures { WritesAtMost result (drop done bytes.now) }
 {
-    let mut turns = u64::MAX;
-    while turns > 0 {
-        let put = libc::write(fd, &bytes[done..]);
-        if put >= 0 {
-            return put;
+    for _ in 0..u64::MAX {
+        match to.write(&bytes[done..]) {
+            Ok(put) => return Ok(put),
+            Err(why) => {
+                if why.kind() != ErrorKind::Interrupted {
+                    return Err(why);
+                }
+            }
         }
-        if os::errno() != libc::EINTR {
-            return put;
-        }
-        turns -= 1;
     }
-    -1
+    Err(Error::from(ErrorKind::Interrupted))
 }
 
-// Writes all bytes, or answers false, where some of them may have been written.
-fn write_whole(fd: i32, bytes: &[u8]) -> bool {
+// Writes all bytes, or says why not, where some of them may have been written.
+fn write_whole<W: Write>(to: &mut W, bytes: &[u8]) -> io::Result<()> {
     let mut done: usize = 0;
     while done < bytes.len() {
-        let put = write_more(fd, bytes, done);
-        let n = io::count(put, &bytes[done..]);
+        let n = write_more(to, bytes, done)?;
         if n == 0 {
-            return false;
+            return Err(Error::from(ErrorKind::WriteZero));
         }
         done += n;
     }
-    true
+    Ok(())
 }
 
 // Shows a name on a terminal as it is, but for bytes that would move its cursor.
@@ -143,51 +167,117 @@ fn visible(byte: u8) -> u8
     byte
 }
 
+// Says on standard error what its bytes say. Where that fails there is nobody to tell.
+fn say(rt: &HostRuntime, bytes: &[u8]) {
+    let _ = write_whole(&mut rt.stderr(), bytes);
+}
+
+// The words of an error, at the front of a buffer.
+#[derive(Drop)]
+struct Words {
+    text: [u8; WORDS_ROOM],
+    length: usize,
+}
+
+impl fmt::Write for Words {
+    fn write_str(&mut self, text: &str) -> fmt::Result {
+        for byte in text.as_bytes() {
+            if self.length < WORDS_ROOM {
+                self.text[self.length] = *byte;
+                self.length += 1;
+            }
+        }
+        Ok(())
+    }
+}
+
+// Says why something failed, in the words of the C library: without the number that std puts behind them.
+fn say_why(rt: &HostRuntime, why: Error) {
+    let mut words = Words {
+        text: [0; WORDS_ROOM],
+        length: 0,
+    };
+    let _ = write!(words, "{why}");
+    let n = words.length.min(WORDS_ROOM);
+    let text = std::str::from_utf8(&words.text[..n]).unwrap_or("");
+    match text.split_once(" (os error ") {
+        Some((said, _)) => say(rt, said.as_bytes()),
+        None => say(rt, text.as_bytes()),
+    }
+}
+
 // Says what failed, and why in the words of the C library.
-pub fn failed(program: &[u8], what: &[u8]) -> u32
+pub fn failed(rt: &HostRuntime, program: &[u8], what: &[u8], why: Error) -> u32
     ensures { result ≡ failed }
 {
-    write_whole(libc::STDERR_FILENO, program);
-    write_whole(libc::STDERR_FILENO, b": ");
-    os::fail(what);
+    say(rt, program);
+    say(rt, b": ");
+    say(rt, what);
+    say(rt, b": ");
+    say_why(rt, why);
+    say(rt, b"\n");
     FAILED
+}
+
+// How many words there are, with the program's name.
+pub fn word_count(rt: &HostRuntime) -> usize {
+    for i in 0..usize::MAX {
+        if let Err(FillError::NotPresent) = rt.arg(i, &mut []) {
+            return i;
+        }
+    }
+    usize::MAX
 }
 
 // The word at place i, at the front of a buffer, or as much of it as the buffer holds: no path is longer, and the front of a longer word
 // says whether it is an option. A word that is missing has no bytes.
-pub fn word_at(i: usize, word: &mut [u8]) -> usize
+pub fn word_at(rt: &HostRuntime, i: usize, word: &mut [u8]) -> usize
     ensures { result ≤ length word.new }
 {
-    let n = os::arg(i, word);
-    if os::errno() == libc::ENAMETOOLONG {
-        return word.len();
+    match rt.arg(i, word) {
+        Ok(n) => n,
+        Err(FillError::TooLong) => word.len(),
+        Err(FillError::NotPresent) => 0,
     }
-    n
 }
 
 // Says what is wrong with the word at place i, and where to read more.
-pub fn misused(program: &[u8], i: usize, what: &[u8]) -> u32
+pub fn misused(rt: &HostRuntime, program: &[u8], i: usize, what: &[u8]) -> u32
     ensures { result ≡ failed }
 {
-    let mut word = io::buffer();
-    let n = word_at(i, &mut word);
+    let mut word = [0u8; NAME_ROOM];
+    let n = word_at(rt, i, &mut word);
     make_visible(&mut word);
-    write_whole(libc::STDERR_FILENO, program);
-    write_whole(libc::STDERR_FILENO, b": ");
-    write_whole(libc::STDERR_FILENO, &word[..n]);
-    write_whole(libc::STDERR_FILENO, what);
-    write_whole(libc::STDERR_FILENO, b"\nTry '");
-    write_whole(libc::STDERR_FILENO, program);
-    write_whole(libc::STDERR_FILENO, b" --help'.\n");
+    say(rt, program);
+    say(rt, b": ");
+    say(rt, &word[..n]);
+    say(rt, what);
+    say(rt, b"\nTry '");
+    say(rt, program);
+    say(rt, b" --help'.\n");
     FAILED
 }
 
-// All of a text to standard output, which is then closed: some systems tell only there that a file could not be written.
-fn put_out(text: &[u8]) -> bool {
-    if write_whole(libc::STDOUT_FILENO, text) {
-        return libc::close(libc::STDOUT_FILENO) == 0;
+// Hands a file that standard output goes to over to its device: some systems tell only there that it could not be written. (What a close
+// says std tells nobody.)
+fn keep_file(rt: &HostRuntime) -> io::Result<()> {
+    let Ok(known) = fs::metadata(rt, OUTPUT) else {
+        return Ok(());
+    };
+    if !known.is_file() {
+        return Ok(());
     }
-    false
+    let Ok(file) = OpenOptions::new().write(true).open(rt, OUTPUT) else {
+        return Ok(());
+    };
+    file.sync_data()
+}
+
+// All of a text to standard output, which has to be there where the text is empty too.
+fn put_out(rt: &HostRuntime, text: &[u8]) -> io::Result<()> {
+    write_whole(&mut rt.stdout(), text)?;
+    rt.stdout().as_fd().try_clone_to_owned()?;
+    keep_file(rt)
 }
 
 fn ended_by(written: bool, status: u32) -> u32
@@ -198,92 +288,126 @@ fn ended_by(written: bool, status: u32) -> u32
 
 // A program's last step: its text to standard output, then what it says to standard error. Where the output fails, that is said in its
 // place.
-pub fn finish(program: &[u8], text: &[u8], said: &[u8], status: u32) -> u32
+pub fn finish(rt: &HostRuntime, program: &[u8], text: &[u8], said: &[u8], status: u32) -> u32
     ensures { (result ≡ failed) ⊎ (result ≡ status) }
 {
-    let written = put_out(text);
-    if written {
-        write_whole(libc::STDERR_FILENO, said);
-    } else {
-        failed(program, b"standard output");
-    }
+    let written = match put_out(rt, text) {
+        Ok(()) => {
+            say(rt, said);
+            true
+        }
+        Err(why) => {
+            failed(rt, program, b"standard output", why);
+            false
+        }
+    };
     ended_by(written, status)
 }
 
 // Reads an open input. The name is for what is said where that fails.
-fn read_from(program: &[u8], fd: i32, name: &[u8], buffer: &mut [u8]) -> Input
+fn read_from<R: Read>(
+    rt: &HostRuntime,
+    program: &[u8],
+    from: &mut R,
+    name: &[u8],
+    buffer: &mut [u8],
+) -> Input
     ensures { Taken result (length buffer.old) }
 {
-    match read_whole(fd, buffer) {
+    match read_whole(from, buffer) {
         Got::Read(n) => Input::Bytes(n),
-        Got::Failed => Input::Ended(failed(program, name)),
+        Got::Failed(why) => Input::Ended(failed(rt, program, name, why)),
+    }
+}
+
+// Opens the file of a name. std opens none whose name is no text.
+fn open_path(rt: &HostRuntime, path: &[u8]) -> io::Result<File> {
+    match std::str::from_utf8(path) {
+        Ok(text) => File::open(rt, text),
+        Err(_) => Err(Error::from_raw_os_error(NO_TEXT)),
+    }
+}
+
+// Why a word is not to be had.
+fn no_word(why: FillError) -> Error {
+    match why {
+        FillError::NotPresent => Error::from_raw_os_error(MISSING),
+        FillError::TooLong => Error::from_raw_os_error(TOO_LONG),
     }
 }
 
 // Opens the file that the word at place i names. Its name is then at the front of the buffer, as a message shows it.
-pub fn open_named(program: &[u8], i: usize, path: &mut [u8]) -> Opened
+pub fn open_named(rt: &HostRuntime, program: &[u8], i: usize, path: &mut [u8]) -> Opened
     ensures { Opens result (length path.new) }
 {
-    let n = os::arg(i, path);
-    if os::errno() != 0 {
-        return Opened::Ended(failed(program, b"the file's name"));
-    }
-    let fd = os::open_read(&path[..n]);
+    let n = match rt.arg(i, path) {
+        Ok(n) => n,
+        Err(why) => {
+            return Opened::Ended(failed(rt, program, b"the file's name", no_word(why)));
+        }
+    };
+    let opened = open_path(rt, &path[..n]);
     make_visible(path);
-    if fd < 0 {
-        return Opened::Ended(failed(program, &path[..n]));
+    match opened {
+        Ok(file) => Opened::File { file, name: n },
+        Err(why) => Opened::Ended(failed(rt, program, &path[..n], why)),
     }
-    Opened::File { fd, name: n }
 }
 
 // The room for a name in a buffer: no path is longer.
 fn name_room(room: usize) -> usize
     ensures { result ≤ room }
 {
-    if libc::PATH_MAX < room {
-        libc::PATH_MAX
-    } else {
-        room
-    }
+    if NAME_ROOM < room { NAME_ROOM } else { room }
 }
 
 // Reads the file that the word at place i names. The buffer has room for the name while the file is opened, so that no second one stands on
 // the stack then; the name is fetched again for what is said where the read fails.
-fn read_file(program: &[u8], i: usize, buffer: &mut [u8]) -> Input
+fn read_file(rt: &HostRuntime, program: &[u8], i: usize, buffer: &mut [u8]) -> Input
     ensures { Taken result (length buffer.old) }
 {
     let most = name_room(buffer.len());
-    match open_named(program, i, &mut buffer[..most]) {
-        Opened::File { fd, name: _ } => read_open(program, fd, i, buffer),
+    match open_named(rt, program, i, &mut buffer[..most]) {
+        Opened::File { file, name: _ } => read_open(rt, program, file, i, buffer),
         Opened::Ended(status) => Input::Ended(status),
     }
 }
 
-// Reads a file that is open, and that the word at place i names.
-fn read_open(program: &[u8], fd: i32, i: usize, buffer: &mut [u8]) -> Input
+// Reads a file that is open, and that the word at place i names. Where that fails the buffer has room for the name once more.
+fn read_open(rt: &HostRuntime, program: &[u8], mut file: File, i: usize, buffer: &mut [u8]) -> Input
     ensures { Taken result (length buffer.old) }
 {
-    let mut path = io::buffer();
-    let n = word_at(i, &mut path);
-    make_visible(&mut path);
-    read_from(program, fd, &path[..n], buffer)
+    match read_whole(&mut file, buffer) {
+        Got::Read(n) => Input::Bytes(n),
+        Got::Failed(why) => Input::Ended(unread(rt, program, i, buffer, why)),
+    }
+}
+
+// Says why the file that the word at place i names cannot be read.
+fn unread(rt: &HostRuntime, program: &[u8], i: usize, buffer: &mut [u8], why: Error) -> u32
+    ensures { result ≡ failed }
+{
+    let most = name_room(buffer.len());
+    let n = word_at(rt, i, &mut buffer[..most]);
+    make_visible(&mut buffer[..n]);
+    failed(rt, program, &buffer[..n], why)
 }
 
 // What is asked for after the word at place i.
-fn take(seen: Seen, i: usize) -> Seen
+fn take(rt: &HostRuntime, seen: Seen, i: usize) -> Seen
     ensures { Took seen i result }
 {
     let asked = seen.asked;
     if command::settled(asked) {
         return seen;
     }
-    let mut word = io::buffer();
-    let n = word_at(i, &mut word);
+    let mut word = [0u8; FRONT_ROOM];
+    let n = word_at(rt, i, &mut word);
     command::next(seen, command::word_of(&word[..n]), i)
 }
 
 // What the words from place `first` on ask for.
-pub fn ask_from(first: usize, count: usize) -> Asked
+pub fn ask_from(rt: &HostRuntime, first: usize, count: usize) -> Asked
     ensures { Among first count result }
 {
     let mut seen = Seen {
@@ -291,48 +415,57 @@ pub fn ask_from(first: usize, count: usize) -> Asked
         ended: false,
     };
     for i in first..count {
-        seen = take(seen, i);
+        seen = take(rt, seen, i);
     }
     seen.asked
 }
 
 // What all words ask for; the first of them is the program's name.
-pub fn ask(count: usize) -> Asked
+pub fn ask(rt: &HostRuntime, count: usize) -> Asked
     ensures { Among 1 count result }
 {
-    ask_from(1, count)
+    ask_from(rt, 1, count)
 }
 
 // What a program begins with, by what its words ask for.
 pub fn begin_as(
+    rt: &HostRuntime,
     asked: Asked,
     program: &[u8],
     help: &[u8],
     version: &[u8],
     buffer: &mut [u8],
 ) -> Input
-    ensures { Begun asked result (length buffer.old) }
+    ensures begun { Begun asked result (length buffer.old) }
+    ensures untouched { Untouched asked buffer.old buffer.new }
 {
     match asked {
-        Asked::Nothing => read_from(program, libc::STDIN_FILENO, b"standard input", buffer),
-        Asked::Input => read_from(program, libc::STDIN_FILENO, b"standard input", buffer),
-        Asked::Named(i) => read_file(program, i, buffer),
-        Asked::Usage => Input::Ended(finish(program, help, b"", ACCEPTED)),
-        Asked::Number => Input::Ended(finish(program, version, b"", ACCEPTED)),
-        Asked::Unknown(i) => Input::Ended(misused(program, i, b": no such option")),
-        Asked::Second(i) => Input::Ended(misused(program, i, b": a second file")),
+        Asked::Nothing => read_from(rt, program, &mut rt.stdin(), b"standard input", buffer),
+        Asked::Input => read_from(rt, program, &mut rt.stdin(), b"standard input", buffer),
+        Asked::Named(i) => read_file(rt, program, i, buffer),
+        Asked::Usage => Input::Ended(finish(rt, program, help, b"", ACCEPTED)),
+        Asked::Number => Input::Ended(finish(rt, program, version, b"", ACCEPTED)),
+        Asked::Unknown(i) => Input::Ended(misused(rt, program, i, b": no such option")),
+        Asked::Second(i) => Input::Ended(misused(rt, program, i, b": a second file")),
     }
 }
 
 // A program's first step: `PROGRAM [FILE]`, standard input where there is no file or it is `-`, `--help` and `--version`.
-pub fn begin(program: &[u8], help: &[u8], version: &[u8], buffer: &mut [u8]) -> Input
+pub fn begin(
+    rt: &HostRuntime,
+    program: &[u8],
+    help: &[u8],
+    version: &[u8],
+    buffer: &mut [u8],
+) -> Input
     ensures { Came result (length buffer.old) }
 {
-    begin_from(1, program, help, version, buffer)
+    begin_from(rt, 1, program, help, version, buffer)
 }
 
 // The same for the words from place `first` on, behind those that a program reads by itself.
 pub fn begin_from(
+    rt: &HostRuntime,
     first: usize,
     program: &[u8],
     help: &[u8],
@@ -342,7 +475,8 @@ pub fn begin_from(
     ensures { Came result (length buffer.old) }
 {
     begin_as(
-        ask_from(first, os::arg_count()),
+        rt,
+        ask_from(rt, first, word_count(rt)),
         program,
         help,
         version,

@@ -12,43 +12,43 @@ use Rattle.reasons.proofs.Texts.{drop_step}
 use Rattle.cutting.proofs.blank_in.Statement.{statement}
 use Rattle.cutting.proofs.blank_in.Tie as tie
 
-abbrev invariant-loop : tie.invariant-loop
-invariant-loop line i₀ i = (i ≤ length line) × (length (up_to_blank line) ≡ i + length (up_to_blank (drop i line)))
+abbrev invariant-loop-i : tie.invariant-loop-i
+invariant-loop-i line i₀ i = (i ≤ length line) × (length (up_to_blank line) ≡ i + length (up_to_blank (drop i line)))
 
-abbrev decreases-loop : tie.decreases-loop
-decreases-loop line i₀ i = length line - i
+abbrev decreases-loop-i : tie.decreases-loop-i
+decreases-loop-i line i₀ i = length line - i
 
-loop-holds : tie.Need-loop-init invariant-loop decreases-loop
+loop-holds : tie.Need-loop-i-init invariant-loop-i decreases-loop-i
 loop-holds c = (search rules, omega arith)
 
-shared-slice-read-if1 : tie.Need-shared-slice-read-if1 invariant-loop decreases-loop
+shared-slice-read-if1 : tie.Need-bounds-line-i invariant-loop-i decreases-loop-i
 shared-slice-read-if1 c = search rules
 
-returns : tie.Need-returns invariant-loop decreases-loop
+returns : tie.Need-returns-then-line-i-eq32 invariant-loop-i decreases-loop-i
 returns c =
-    let p = c.before.before.before in
-    simp (p.loop.invariant.1, drop_step p.before.args.line.now p.loop.i c.before.before.loop-test.true, eq-eqb _ _ c.if1.true, add-zero)
+    let p = c in
+    simp (p.loop-i.invariant.1, drop_step p.args.line.now p.loop-i.i c.loop-i-test.true, eq-eqb _ _ c.if-line-i-eq32.true, add-zero)
 
-add-i : tie.Need-overflow-add-i invariant-loop decreases-loop
+add-i : tie.Need-overflow_add-i invariant-loop-i decreases-loop-i
 add-i c = search rules
 
-loop-less : tie.Need-loop-smaller invariant-loop decreases-loop
+loop-less : tie.Need-loop-i-smaller invariant-loop-i decreases-loop-i
 loop-less c = search rules
 
-loop-again : tie.Need-loop-preserved invariant-loop decreases-loop
+loop-again : tie.Need-loop-i-preserved invariant-loop-i decreases-loop-i
 loop-again c =
-    let p = c.before.before.before in
-    (search rules, simp (p.loop.invariant.1, drop_step p.before.args.line.now p.loop.i c.before.before.loop-test.true, ne_eqb _ _ c.if1.false) (omega arith))
+    let p = c in
+    (search rules, simp (p.loop-i.invariant.1, drop_step p.args.line.now p.loop-i.i c.loop-i-test.true, ne_eqb _ _ c.if-line-i-eq32.false) (omega arith))
 
-returns-2 : tie.Need-returns-2 invariant-loop decreases-loop
-returns-2 c = simp (c.before.loop.invariant.1, drop_of_length-le c.before.before.args.line.now c.loop-test.false, add-zero)
+returns-2 : tie.Need-returns invariant-loop-i decreases-loop-i
+returns-2 c = simp (c.loop-i.invariant.1, drop_of_length-le c.args.line.now c.loop-i-test.false, add-zero)
 
-pub blank-in-spec : {M : Type 1} → statement M
-blank-in-spec =
+pub blank_in_spec : {M : Type 1} → statement M
+blank_in_spec =
     tie.close
     (tie.spec
-    invariant-loop
-    decreases-loop
+    invariant-loop-i
+    decreases-loop-i
     loop-holds
     shared-slice-read-if1
     returns

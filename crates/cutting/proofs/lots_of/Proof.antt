@@ -12,51 +12,51 @@ use Rattle.cutting.proofs.lots_of.Statement.{statement}
 use Rattle.cutting.proofs.lots_of.Tie as tie
 
 -- src/lib.rt:84:9
-blank-in-requires : tie.Need-blank-in-requires
+blank-in-requires : tie.Need-blank_in-blank-requires
 blank-in-requires c κs = search rules
 
 -- src/lib.rt:86:9
-returns : tie.Need-returns
+returns : tie.Need-returns-then-line-blank
 unfolding lots_of
 returns c =
-    let b = c.before in
-    let l = b.before.before.args.line.now in
-    sym (ap (λ (v : List ℕ). or_else 1_000_001 (figure_of held_form v)) (no_blank l (omega (arith, b.blank-in.ensures))) ∙ ap (or_else 1_000_001) empty_none)
+    let b = c in
+    let l = b.args.line.now in
+    sym (ap (λ (v : List ℕ). or_else 1_000_001 (figure_of held_form v)) (no_blank l (omega (arith, b.blank_in-blank.ensures))) ∙ ap (or_else 1_000_001) empty_none)
 
 -- src/lib.rt:88:49
-add-read-figure : tie.Need-overflow-add-read-figure
+add-read-figure : tie.Need-overflow_add-blank
 add-read-figure c = search rules
 
 -- src/lib.rt:88:43
-sub-read-figure : tie.Need-overflow-sub-read-figure
+sub-read-figure : tie.Need-slice_bounds-read_figure-count
 sub-read-figure c = search rules
 
 -- src/lib.rt:88:43
-part-read-figure-start : tie.Need-slice-bounds-read-figure-start
+part-read-figure-start : tie.Need-slice_bounds-read_figure-start
 part-read-figure-start c = search rules
 
 -- src/lib.rt:88:43
-part-read-figure-end : tie.Need-slice-bounds-read-figure-end
+part-read-figure-end : tie.Need-slice_bounds-read_figure-end
 part-read-figure-end c = search rules
 
 -- src/lib.rt:88:22
-read-figure-requires : tie.Need-read-figure-requires
+read-figure-requires : tie.Need-read_figure-requires
 read-figure-requires c κs = search rules
 
 -- src/lib.rt:88:5
-or-else-requires : tie.Need-or-else-requires
+or-else-requires : tie.Need-or_else-requires
 or-else-requires c κs = search rules
 
 -- src/lib.rt:81:1
-returns-2 : tie.Need-returns-2
+returns-2 : tie.Need-returns
 unfolding lots_of
 returns-2 c =
-    let b = c.before.before.before.before in
-    let l = b.before.before.args.line.now in
-    c.or_else.ensures ∙ ap (or_else 1_000_001) (c.before.read_figure.ensures ∙ ap (figure_of held_form) (after_part l b.blank-in.result b.blank-in.ensures (omega arith)))
+    let b = c in
+    let l = b.args.line.now in
+    c.or_else.ensures ∙ ap (or_else 1_000_001) (c.read_figure.ensures ∙ ap (figure_of held_form) (after_part l b.blank_in-blank.result b.blank_in-blank.ensures (omega arith)))
 
-pub lots-of-spec : {M : Type 1} → statement M
-lots-of-spec =
+pub lots_of_spec : {M : Type 1} → statement M
+lots_of_spec =
     tie.close
     (tie.spec
     blank-in-requires

@@ -9,40 +9,36 @@ use Rattle.cutting.proofs.put_row.Statement.{statement}
 use Rattle.cutting.proofs.put_row.Tie as tie
 
 -- src/lib.rt:123:9
-put-bytes-requires : tie.Need-put-bytes-requires
-put-bytes-requires c κs = let a = c.before.before.before.args in omega (arith, row_length a.code.now a.n)
+put-bytes-requires : tie.Need-put_bytes-blank-requires
+put-bytes-requires c κs = let a = c.args in omega (arith, row_length a.code.now a.n)
 
 -- src/lib.rt:124:39
-slice-aggregate-put-worded : tie.Need-slice-aggregate-put-worded
-slice-aggregate-put-worded c = search rules
-
 -- src/lib.rt:124:9
-put-worded-requires : tie.Need-put-worded-requires
-put-worded-requires c κs = let a = c.before.before.before.before.before.before.before.before.args in omega (arith, row_length a.code.now a.n)
+put-worded-requires : tie.Need-put_worded-feed-requires
+put-worded-requires c κs = let a = c.args in omega (arith, row_length a.code.now a.n)
 
 -- src/lib.rt:125:5
-put-byte-requires : tie.Need-put-byte-requires
-put-byte-requires c κs = let a = c.before.before.before.before.before.before.before.before.before.before.before.before.args in omega (arith, row_length a.code.now a.n)
+put-byte-requires : tie.Need-put_byte-requires
+put-byte-requires c κs = let a = c.args in omega (arith, row_length a.code.now a.n)
 
 -- src/lib.rt:119:1
-same_length : tie.Need-same-length
+same_length : tie.Need-shape_of-out
 same_length c = search rules
 
 -- src/lib.rt:119:1
 returns : tie.Need-returns
 returns c =
-    let feed = c.before.before in
-    let second = feed.before.before.before.before in
-    let first = second.before.before.before.before.before in
-    let all = join (join first.put_bytes.ensures second.put_worded.ensures (omega arith)) feed.put_byte.ensures (omega arith) in
+    let feed = c in
+    let second = feed in
+    let first = second in
+    let all = join (join first.put_bytes-blank.ensures second.put_worded-feed.ensures (omega arith)) feed.put_byte.ensures (omega arith) in
     simp append_assoc at all
 
-pub put-row-spec : {M : Type 1} → statement M
-put-row-spec =
+pub put_row_spec : {M : Type 1} → statement M
+put_row_spec =
     tie.close
     (tie.spec
     put-bytes-requires
-    slice-aggregate-put-worded
     put-worded-requires
     put-byte-requires
     same_length

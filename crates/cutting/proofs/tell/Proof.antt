@@ -19,116 +19,112 @@ use borrow.Author.Rules.{rules}
 use Rattle.cutting.proofs.tell.Statement.{statement}
 use Rattle.cutting.proofs.tell.Tie as tie
 
-abbrev start : tie.After-answer-of → tie.Start
+abbrev start : tie.After-answer_of-answer → tie.Start
 start o = o.before.before.before.before.before
 
-abbrev kept : tie.After-answer-of → List ℕ
-kept o = o.answer-of.new.1.0
+abbrev kept : tie.After-answer_of-answer → List ℕ
+kept o = o.answer_of-answer.new.cuts
 
-rowed : (e : tie.Else1) → let o = e.before.before in Rowed (start o).args.input.now (kept o) o.answer-of.result.length
-rowed e = let o = e.before.before in rowed_so (start o).args.input.now (kept o) o.answer-of.result o.answer-of.ensures e.if1.false
+rowed : (e : tie.Else-number-ne-ACCEPTED) → let o = e in Rowed (start e.before.before).args.input.now (kept e.before.before) o.answer_of-answer.result.length
+rowed e = let o = e in rowed_so (start e.before.before).args.input.now (kept e.before.before) o.answer_of-answer.result o.answer_of-answer.ensures e.if-number-ne-ACCEPTED.false
 
 -- the lines of the seats, and their cuts
-module _ (r : tie.After-behind-lines) where
-  abbrev o : tie.After-answer-of
+module _ (r : tie.After-behind_lines-seats) where
+  abbrev o : tie.After-answer_of-answer
   o = r.before.before.before
 
   abbrev i : List ℕ
   i = (start o).args.input.now
 
   abbrev from : ℕ
-  from = r.behind_lines.result
+  from = r.behind_lines-seats.result
 
   lines : take (length i - from) (drop from i) ≡ seats i
-  lines = take_all (length i - from) (drop from i) (omega (arith, length-drop from i)) ∙ r.behind_lines.ensures.1
+  lines = take_all (length i - from) (drop from i) (omega (arith, length-drop from i)) ∙ r.behind_lines-seats.ensures.1
 
-  listed : rows (codes_ahead (take (length i - from) (drop from i))) (take o.answer-of.result.length (kept o)) ≡ rows (codes_ahead (seats i)) (rowed r.before).told
+  listed : rows (codes_ahead (take (length i - from) (drop from i))) (take o.answer_of-answer.result.length (kept o)) ≡ rows (codes_ahead (seats i)) (rowed r.before).told
   listed = rw (lines, (rowed r.before).shown)
 
-slice-aggregate-answer-of : tie.Need-slice-aggregate-answer-of
+slice-aggregate-answer-of : tie.Need-slice_bounds-answer_of-end
 slice-aggregate-answer-of c = search rules
 
-answer-of-requires : tie.Need-answer-of-requires
+answer-of-requires : tie.Need-answer_of-answer-requires
 answer-of-requires c κs = search rules
 
-put-refusal-requires : tie.Need-put-refusal-requires
-put-refusal-requires c κs = let o = c.before.before.before in let f : Fits w64 o.answer-of.result.number = search rules in omega (arith, refusal_fits o.answer-of.result.number f, (start o).requires.0)
+put-refusal-requires : tie.Need-put_refusal-requires
+put-refusal-requires c κs = let o = c in let f : Fits w64 o.answer_of-answer.result.number = search rules in omega (arith, refusal_fits o.answer_of-answer.result.number f, (start c.before.before.before).requires.0)
 
-slice-aggregate-put-said : tie.Need-slice-aggregate-put-said
-slice-aggregate-put-said c = search rules
+put-said-requires : tie.Need-put_said-requires
+put-said-requires c κs = let o = c in let f : Fits w64 o.answer_of-answer.result.number = search rules in omega (arith, said_fits o.answer_of-answer.result.number f, (start c.before.before.before.before.before.before.before.before.before).requires.1)
 
-put-said-requires : tie.Need-put-said-requires
-put-said-requires c κs = let o = c.before.before.before.before.before.before.before.before in let f : Fits w64 o.answer-of.result.number = search rules in omega (arith, said_fits o.answer-of.result.number f, (start o).requires.1)
-
-same_length : tie.Need-same-length
+same_length : tie.Need-shape_of-out-then-number-ne-ACCEPTED
 same_length c = search rules
 
-same-length-2 : tie.Need-same-length-2
+same-length-2 : tie.Need-shape_of-words-then-number-ne-ACCEPTED
 same-length-2 c = search rules
 
-returns : tie.Need-returns
+returns : tie.Need-returns-then-number-ne-ACCEPTED
 returns c =
-    let p = c.before.before in
-    let f = p.before.before.before.before.before in
-    let t = f.before.before in
-    let o = t.before.before in
-    let s = start o in
+    let p = c in
+    let f = p in
+    let t = f in
+    let o = t in
+    let s = start c.before.before.before.before.before.before.before.before.before.before.before.before in
     let a = s.args in
-    let fits : Fits w64 o.answer-of.result.number = search rules in
-    subst (λ (v : Verdict). Listed (listing a.input.now v) a.out.now f.put_refusal.new.0 f.put_refusal.result × (Listed (said_of v) a.words.now p.put_said.new.0 p.put_said.result × (1 ≡ status_of v)))
-    (sym (refused_so a.input.now (kept o) o.answer-of.result o.answer-of.ensures t.if1.true)) (
-      record { buffer = f.put_refusal.ensures.whole; size = f.put_refusal.ensures.next ∙ zero-add _; room = omega (arith, f.put_refusal.ensures.next, refusal_fits o.answer-of.result.number fits, s.pre.0) },
-      (record { buffer = p.put_said.ensures.whole; size = p.put_said.ensures.next ∙ zero-add _; room = omega (arith, p.put_said.ensures.next, said_fits o.answer-of.result.number fits, s.pre.1) }, refl),
+    let fits : Fits w64 o.answer_of-answer.result.number = search rules in
+    subst (λ (v : Verdict). Listed (listing a.input.now v) a.out.now f.put_refusal.new.out f.put_refusal.result × (Listed (said_of v) a.words.now p.put_said.new.out p.put_said.result × (1 ≡ status_of v)))
+    (sym (refused_so a.input.now (kept c.before.before.before.before.before.before.before.before.before.before.before.before) o.answer_of-answer.result o.answer_of-answer.ensures t.if-number-ne-ACCEPTED.true)) (
+      record { buffer = f.put_refusal.ensures.whole; size = f.put_refusal.ensures.next ∙ zero-add _; room = omega (arith, f.put_refusal.ensures.next, refusal_fits o.answer_of-answer.result.number fits, s.requires.0) },
+      (record { buffer = p.put_said.ensures.whole; size = p.put_said.ensures.next ∙ zero-add _; room = omega (arith, p.put_said.ensures.next, said_fits o.answer_of-answer.result.number fits, s.requires.1) }, refl),
     )
 
-behind-lines-requires : tie.Need-behind-lines-requires
+behind-lines-requires : tie.Need-behind_lines-seats-requires
 behind-lines-requires c κs = search rules
 
-sub-put-rows : tie.Need-overflow-sub-put-rows
+sub-put-rows : tie.Need-slice_bounds-put_rows-count
 sub-put-rows c = search rules
 
-part-put-rows-start : tie.Need-slice-bounds-put-rows-start
+part-put-rows-start : tie.Need-slice_bounds-put_rows-start
 part-put-rows-start c = search rules
 
-part-put-rows-end : tie.Need-slice-bounds-put-rows-end
+part-put-rows-end : tie.Need-slice_bounds-put_rows-end
 part-put-rows-end c = search rules
 
-array-share-prefix-cuts : tie.Need-array-share-prefix-cuts
+array-share-prefix-cuts : tie.Need-slice_bounds-cuts-end
 array-share-prefix-cuts c = omega (arith, (rowed c.before.before.before).few)
 
-slice-aggregate-put-rows : tie.Need-slice-aggregate-put-rows
+slice-aggregate-put-rows : tie.Need-slice_bounds-put_rows-end-2
 slice-aggregate-put-rows c = let w = rowed c.before.before.before.before in w.size ∙ sym (ap length w.shown)
 
-put-rows-requires : tie.Need-put-rows-requires
+put-rows-requires : tie.Need-put_rows-requires
 put-rows-requires c κs =
-    let r = c.before.before.before in
-    let w = rowed r.before in
-    (omega (arith, ap length (listed r), w.room, (start (o r)).requires.0), omega (arith, ap length w.shown, w.lines, ap (λ (l : List ℕ). length (lines_of l)) (lines r)))
+    let r = c in
+    let w = rowed c.before.before.before.before in
+    (omega (arith, ap length (listed c.before.before.before), w.room, (start (o c.before.before.before)).requires.0), omega (arith, ap length w.shown, w.lines, ap (λ (l : List ℕ). length (lines_of l)) (lines c.before.before.before)))
 
-same-length-3 : tie.Need-same-length-3
+same-length-3 : tie.Need-shape_of-out
 same-length-3 c = search rules
 
-returns-2 : tie.Need-returns-2
+returns-2 : tie.Need-returns
 returns-2 c =
-    let p = c.before.before in
-    let r = p.before.before.before.before in
-    let w = rowed r.before in
-    let s = start (o r) in
+    let p = c in
+    let r = p in
+    let w = rowed c.before.before.before.before.before.before.before in
+    let s = start (o c.before.before.before.before.before.before) in
     let a = s.args in
-    let wrote : Wrote 0 (rows (codes_ahead (seats (i r))) w.told) a.out.now p.put-rows.new.0 p.put-rows.result =
-    subst (λ (x : List ℕ). Wrote 0 x a.out.now p.put-rows.new.0 p.put-rows.result) (listed r) p.put-rows.ensures in
-    subst (λ (v : Verdict). Listed (listing a.input.now v) a.out.now p.put-rows.new.0 p.put-rows.result × (Listed (said_of v) a.words.now a.words.now 0 × (0 ≡ status_of v)))
+    let wrote : Wrote 0 (rows (codes_ahead (seats (i c.before.before.before.before.before.before))) w.told) a.out.now p.put_rows.new.out p.put_rows.result =
+    subst (λ (x : List ℕ). Wrote 0 x a.out.now p.put_rows.new.out p.put_rows.result) (listed c.before.before.before.before.before.before) p.put_rows.ensures in
+    subst (λ (v : Verdict). Listed (listing a.input.now v) a.out.now p.put_rows.new.out p.put_rows.result × (Listed (said_of v) a.words.now a.words.now 0 × (0 ≡ status_of v)))
     (sym w.is)
-    (record { buffer = wrote.whole; size = wrote.next ∙ zero-add _; room = omega (arith, wrote.next, w.room, s.pre.0) }, (record { buffer = sym (written_nothing 0 _); size = refl; room = omega arith }, refl))
+    (record { buffer = wrote.whole; size = wrote.next ∙ zero-add _; room = omega (arith, wrote.next, w.room, s.requires.0) }, (record { buffer = sym (written_nothing 0 _); size = refl; room = omega arith }, refl))
 
-pub tell-spec : {M : Type 1} → statement M
-tell-spec =
+pub tell_spec : {M : Type 1} → statement M
+tell_spec =
     tie.close
     (tie.spec
     slice-aggregate-answer-of
     answer-of-requires
     put-refusal-requires
-    slice-aggregate-put-said
     put-said-requires
     same_length
     same-length-2

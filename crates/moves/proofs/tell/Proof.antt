@@ -17,102 +17,99 @@ use Rattle.moves.proofs.Tells.{Took, Not, took, not_taken}
 use Rattle.moves.proofs.tell.Statement.{statement}
 use Rattle.moves.proofs.tell.Tie as tie
 
-abbrev start : tie.After-moves-in → tie.Start
+abbrev start : tie.After-moves_in-found → tie.Start
 start m = m.before.before.before.before.before.before
 
-taken : (c : tie.Then1) → let m = c.before.before.before.before in Took (verdict_of false (start m).args.total (start m).args.front.now) m.moves_in.result m.moves_in.new.1.1.0
+taken : (c : tie.Then-found-eq-ACCEPTED) → let m = c in Took (verdict_of false (start c.before.before.before.before).args.total (start c.before.before.before.before).args.front.now) m.moves_in-found.result m.moves_in-found.new.spans
 taken c =
-    let m = c.before.before.before.before in
-    let s = start m in
-    took s.args.total s.args.front.now s.args.spans.now m.moves_in.new.1.1.0 m.moves_in.result s.pre.0 s.pre.1.0 m.moves_in.ensures c.if1.true
+    let m = c in
+    let s = start c.before.before.before.before in
+    took s.args.total s.args.front.now s.args.spans.now m.moves_in-found.new.spans m.moves_in-found.result s.requires.0 s.requires.1.0 m.moves_in-found.ensures c.if-found-eq-ACCEPTED.true
 
-abbrev shown : (c : tie.Then1) → List ℕ
-shown c = let m = c.before.before.before.before in take m.moves_in.result.length m.moves_in.new.1.1.0
+abbrev shown : (c : tie.Then-found-eq-ACCEPTED) → List ℕ
+shown c = let m = c in take m.moves_in-found.result.length m.moves_in-found.new.spans
 
-taken-size : (c : tie.Then1) → length (shown c) ≡ c.before.before.before.before.moves_in.result.length
-taken-size c = let m = c.before.before.before.before in omega (arith, length-take m.moves_in.result.length m.moves_in.new.1.1.0, (taken c).inside)
+taken-size : (c : tie.Then-found-eq-ACCEPTED) → length (shown c) ≡ c.moves_in-found.result.length
+taken-size c = let m = c in omega (arith, length-take m.moves_in-found.result.length m.moves_in-found.new.spans, (taken c).inside)
 
-taken-few : (c : tie.Then1) → length (shown c) ≤ 2_000
+taken-few : (c : tie.Then-found-eq-ACCEPTED) → length (shown c) ≤ 2_000
 taken-few c = omega (arith, taken-size c, (taken c).few)
 
-number_fits : (m : tie.After-moves-in) → Fits w64 m.moves_in.result.number
+number_fits : (m : tie.After-moves_in-found) → Fits w64 m.moves_in-found.result.number
 number_fits m = search rules
 
-place-fits : (m : tie.After-moves-in) → Fits w64 m.moves_in.result.place
+place-fits : (m : tie.After-moves_in-found) → Fits w64 m.moves_in-found.result.place
 place-fits m = search rules
 
-refused : (c : tie.Else1) → let m = c.before.before.before.before in Not (verdict_of false (start m).args.total (start m).args.front.now) m.moves_in.result
+refused : (c : tie.Else-found-eq-ACCEPTED) → let m = c in Not (verdict_of false (start c.before.before.before.before).args.total (start c.before.before.before.before).args.front.now) m.moves_in-found.result
 refused c =
-    let m = c.before.before.before.before in
-    let s = start m in
-    not_taken s.args.total s.args.front.now s.args.spans.now m.moves_in.new.1.1.0 m.moves_in.result s.pre.0 s.pre.1.0 m.moves_in.ensures c.if1.false
+    let m = c in
+    let s = start c.before.before.before.before in
+    not_taken s.args.total s.args.front.now s.args.spans.now m.moves_in-found.new.spans m.moves_in-found.result s.requires.0 s.requires.1.0 m.moves_in-found.ensures c.if-found-eq-ACCEPTED.false
 
-moves-in-requires : tie.Need-moves-in-requires
+moves-in-requires : tie.Need-moves_in-found-requires
 moves-in-requires c κs = search rules
 
-slice-reshare-prefix-put-days : tie.Need-slice-reshare-prefix-put-days
+slice-reshare-prefix-put-days : tie.Need-slice_bounds-put_days-end
 slice-reshare-prefix-put-days c = omega (arith, (taken c.before).inside)
 
-slice-aggregate-put-days : tie.Need-slice-aggregate-put-days
-slice-aggregate-put-days c = omega (arith, taken-size c.before.before)
+slice-aggregate-put-days : tie.Need-slice_bounds-put_days-end-then-found-eq-ACCEPTED
+slice-aggregate-put-days c = omega (arith, taken-size c.before)
 
-put-days-requires : tie.Need-put-days-requires
+put-days-requires : tie.Need-put_days-requires
 put-days-requires c κs =
-    let k = c.before.before in
-    (omega (arith, taken-size k, (taken k).few), omega (arith, (start k.before.before.before.before).requires.1.1.0))
+    let k = c in
+    (omega (arith, taken-size c.before, (taken c.before).few), omega (arith, (start c.before.before.before.before.before).requires.1.1.0))
 
-same_length : tie.Need-same-length
+same_length : tie.Need-shape_of-spans-then-found-eq-ACCEPTED
 same_length c = search rules
 
-same-length-2 : tie.Need-same-length-2
+same-length-2 : tie.Need-shape_of-out-then-found-eq-ACCEPTED
 same-length-2 c = search rules
 
-returns : tie.Need-returns
+returns : tie.Need-returns-then-found-eq-ACCEPTED
 returns c =
-    let p = c.before.before in
-    let k = p.before.before.before in
-    let s = start k.before.before.before.before in
-    let t = taken k in
-    (put_so p.put-days.ensures t.listing (omega (arith, listed_short (shown k) (taken-few k), s.pre.1.1.0)), (put_none s.args.words.now t.silent, t.status))
+    let p = c in
+    let k = p in
+    let s = start c.before.before.before.before.before.before.before.before in
+    let t = taken c.before.before.before.before in
+    (put_so p.put_days.ensures t.listing (omega (arith, listed_short (shown c.before.before.before.before) (taken-few c.before.before.before.before), s.requires.1.1.0)), (put_none s.args.words.now t.silent, t.status))
 
-put-refusal-requires : tie.Need-put-refusal-requires
+put-refusal-requires : tie.Need-put_refusal-requires
 put-refusal-requires c κs =
-    let m = c.before.before.before.before.before in
-    omega (arith, refusal_short m.moves_in.result.number m.moves_in.result.place (number_fits m) (place-fits m), (start m).requires.1.1.0)
+    let m = c in
+    omega (arith, refusal_short m.moves_in-found.result.number m.moves_in-found.result.place (number_fits c.before.before.before.before.before) (place-fits c.before.before.before.before.before), (start c.before.before.before.before.before).requires.1.1.0)
 
-slice-aggregate-put-said : tie.Need-slice-aggregate-put-said
-slice-aggregate-put-said c = search rules
-
-put-said-requires : tie.Need-put-said-requires
+put-said-requires : tie.Need-put_said-requires
 put-said-requires c κs =
-    let m = c.before.before.before.before.before.before.before.before.before.before in
-    omega (arith, short (bytes "moves") m.moves_in.result.number m.moves_in.result.place (omega arith) (number_fits m) (place-fits m), (start m).requires.1.1.1)
+    let m = c in
+    omega (arith, short (bytes "moves") m.moves_in-found.result.number m.moves_in-found.result.place (omega arith) (number_fits c.before.before.before.before.before.before.before.before.before.before.before) (place-fits c.before.before.before.before.before.before.before.before.before.before.before), (start c.before.before.before.before.before.before.before.before.before.before.before).requires.1.1.1)
 
-same-length-3 : tie.Need-same-length-3
+same-length-3 : tie.Need-shape_of-spans
 same-length-3 c = search rules
 
-same-length-4 : tie.Need-same-length-4
+same-length-4 : tie.Need-shape_of-out
 same-length-4 c = search rules
 
-same-length-5 : tie.Need-same-length-5
+same-length-5 : tie.Need-shape_of-words
 same-length-5 c = search rules
 
-returns-2 : tie.Need-returns-2
+returns-2 : tie.Need-returns
 returns-2 c =
-    let q = c.before.before in
-    let p = q.before.before.before.before.before in
-    let e = p.before.before in
-    let m = e.before.before.before.before in
-    let s = start m in
-    let r = refused e in
-    let n = m.moves_in.result.number in
-    let at = m.moves_in.result.place in (
-      put_so p.put_refusal.ensures r.listing (omega (arith, refusal_short n at (number_fits m) (place-fits m), s.pre.1.1.0)),
-      (put_so q.put_said.ensures r.line (omega (arith, short (bytes "moves") n at (omega arith) (number_fits m) (place-fits m), s.pre.1.1.1)), r.status),
+    let q = c in
+    let p = q in
+    let e = p in
+    let m = e in
+    let s = start c.before.before.before.before.before.before.before.before.before.before.before.before.before.before in
+    let r = refused c.before.before.before.before.before.before.before.before.before.before in
+    let n = m.moves_in-found.result.number in
+    let at = m.moves_in-found.result.place in (
+      put_so p.put_refusal.ensures r.listing (omega (arith, refusal_short n at (number_fits c.before.before.before.before.before.before.before.before.before.before.before.before.before.before) (place-fits c.before.before.before.before.before.before.before.before.before.before.before.before.before.before), s.requires.1.1.0)),
+      (put_so q.put_said.ensures r.line (omega (arith, short (bytes "moves") n at (omega arith) (number_fits c.before.before.before.before.before.before.before.before.before.before.before.before.before.before) (place-fits c.before.before.before.before.before.before.before.before.before.before.before.before.before.before), s.requires.1.1.1)), r.status),
     )
 
-pub tell-spec : {M : Type 1} → statement M
-tell-spec =
+pub tell_spec : {M : Type 1} → statement M
+tell_spec =
     tie.close
     (tie.spec
     moves-in-requires
@@ -123,7 +120,6 @@ tell-spec =
     same-length-2
     returns
     put-refusal-requires
-    slice-aggregate-put-said
     put-said-requires
     same-length-3
     same-length-4

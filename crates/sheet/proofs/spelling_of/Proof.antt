@@ -6,52 +6,44 @@ use borrow.Author.Rules.{rules}
 use Rattle.sheet.proofs.spelling_of.Statement.{statement}
 use Rattle.sheet.proofs.spelling_of.Tie as tie
 
-slice-aggregate-is : tie.Need-slice-aggregate-is
-slice-aggregate-is c = search rules
-
 is-requires : tie.Need-is-requires
 is-requires c κs = search rules
 
-returns : tie.Need-returns
-returns c = sym (rw (sym c.before.is.ensures ∙ c.if1.true) refl)
-
-slice-aggregate-is-2 : tie.Need-slice-aggregate-is-2
-slice-aggregate-is-2 c = search rules
+returns : tie.Need-returns-then-is
+returns c = sym (rw (sym c.is.ensures ∙ c.if-is.true) refl)
 
 is-requires-2 : tie.Need-is-requires-2
 is-requires-2 c κs = search rules
 
-returns-2 : tie.Need-returns-2
-returns-2 c = let e = c.before.before.before in sym (rw (sym e.before.is.ensures ∙ e.if1.false, sym c.before.is2.ensures ∙ c.if2.true) refl)
+returns-2 : tie.Need-returns-then-is-2
+returns-2 c = let e = c in sym (rw (sym e.is.ensures ∙ e.if-is.false, sym c.is-2.ensures ∙ c.if-is-2.true) refl)
 
-word-of-requires : tie.Need-word-of-requires
+word-of-requires : tie.Need-word_of-requires
 word-of-requires c κs = search rules
 
-is-option-requires : tie.Need-is-option-requires
+is-option-requires : tie.Need-is_option-requires
 is-option-requires c κs = search rules
 
-returns-3 : tie.Need-returns-3
+returns-3 : tie.Need-returns-then-is_option
 returns-3 c =
-    let w = c.before.before in
-    let f = w.before in
-    let e = f.before.before.before in
-    sym (rw (sym e.before.is.ensures ∙ e.if1.false, sym f.before.is2.ensures ∙ f.if2.false, ap is_option (sym w.word_of.ensures) ∙ sym c.before.is-option.ensures ∙ c.if3.true) refl)
+    let w = c in
+    let f = w in
+    let e = f in
+    sym (rw (sym e.is.ensures ∙ e.if-is.false, sym f.is-2.ensures ∙ f.if-is-2.false, ap is_option (sym w.word_of.ensures) ∙ sym c.is_option.ensures ∙ c.if-is_option.true) refl)
 
-returns-4 : tie.Need-returns-4
+returns-4 : tie.Need-returns
 returns-4 c =
-    let w = c.before.before in
-    let f = w.before in
-    let e = f.before.before.before in
-    sym (rw (sym e.before.is.ensures ∙ e.if1.false, sym f.before.is2.ensures ∙ f.if2.false, ap is_option (sym w.word_of.ensures) ∙ sym c.before.is-option.ensures ∙ c.if3.false) refl)
+    let w = c in
+    let f = w in
+    let e = f in
+    sym (rw (sym e.is.ensures ∙ e.if-is.false, sym f.is-2.ensures ∙ f.if-is-2.false, ap is_option (sym w.word_of.ensures) ∙ sym c.is_option.ensures ∙ c.if-is_option.false) refl)
 
-pub spelling-of-spec : {M : Type 1} → statement M
-spelling-of-spec =
+pub spelling_of_spec : {M : Type 1} → statement M
+spelling_of_spec =
     tie.close
     (tie.spec
-    slice-aggregate-is
     is-requires
     returns
-    slice-aggregate-is-2
     is-requires-2
     returns-2
     word-of-requires

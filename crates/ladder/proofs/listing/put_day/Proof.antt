@@ -15,31 +15,31 @@ use Rattle.ladder.proofs.listing.put_day.Tie as tie
 fits : (s : tie.Start) → let a = s.args in a.at + (length (digits a.day) + length (step_words a.step) + 1) ≤ length a.out.now
 fits s = omega (arith, s.requires, line_size s.args.day s.args.step)
 
-put-digits-requires : tie.Need-put-digits-requires
+put-digits-requires : tie.Need-put_digits-words-requires
 put-digits-requires c κs = omega (arith, fits c.before.before)
 
-put-step-requires : tie.Need-put-step-requires
-put-step-requires c κs = let p = c.before.before.before in omega (arith, fits p.before.before.before, p.put_digits.ensures.next)
+put-step-requires : tie.Need-put_step-end-requires
+put-step-requires c κs = let p = c in omega (arith, fits c.before.before.before.before.before.before, p.put_digits-words.ensures.next)
 
-put-byte-requires : tie.Need-put-byte-requires
+put-byte-requires : tie.Need-put_byte-requires
 put-byte-requires c κs =
-    let q = c.before.before.before in
-    let p = q.before.before.before.before in
-    omega (arith, fits p.before.before.before, p.put_digits.ensures.next, q.put_step.ensures.next)
+    let q = c in
+    let p = q in
+    omega (arith, fits c.before.before.before.before.before.before.before.before.before.before, p.put_digits-words.ensures.next, q.put_step-end.ensures.next)
 
-same_length : tie.Need-same-length
+same_length : tie.Need-shape_of-out
 same_length c = search rules
 
 returns : tie.Need-returns
 returns c =
-    let f = c.before.before in
-    let q = f.before.before.before.before in
-    let p = q.before.before.before.before in
-    let s = p.before.before.before in
+    let f = c in
+    let q = f in
+    let p = q in
+    let s = p in
     same_wrote (line_joined s.args.day s.args.step)
-    (join (join p.put_digits.ensures q.put_step.ensures (omega (arith, fits s))) f.put_byte.ensures (omega (arith, fits s)))
+    (join (join p.put_digits-words.ensures q.put_step-end.ensures (omega (arith, fits c.before.before.before.before.before.before.before.before.before.before.before.before.before))) f.put_byte.ensures (omega (arith, fits c.before.before.before.before.before.before.before.before.before.before.before.before.before)))
 
-pub put-day-spec : {M : Type 1} → statement M
-put-day-spec =
+pub put_day_spec : {M : Type 1} → statement M
+put_day_spec =
     tie.close
     (tie.spec put-digits-requires put-step-requires put-byte-requires same_length returns)

@@ -17,83 +17,79 @@ use Rattle.moves.proofs.Lines.{lines_same, listed_size, listed_joined}
 use Rattle.moves.proofs.listing.put_days.Statement.{statement}
 use Rattle.moves.proofs.listing.put_days.Tie as tie
 
-abbrev invariant-loop : tie.invariant-loop
-invariant-loop out₀ bytes count at₀ i₀ out at i = (i ≤ length bytes) × (length out ≡ length out₀) × Rolled day_line bytes out₀ out at₀ at i
+abbrev invariant-loop-i : tie.invariant-loop-i
+invariant-loop-i out₀ bytes count at₀ i₀ out at i = (i ≤ length bytes) × (length out ≡ length out₀) × Rolled day_line bytes out₀ out at₀ at i
 
-abbrev decreases-loop : tie.decreases-loop
-decreases-loop out₀ bytes count at₀ i₀ out at i = length bytes - i
+abbrev decreases-loop-i : tie.decreases-loop-i
+decreases-loop-i out₀ bytes count at₀ i₀ out at i = length bytes - i
 
 -- all of it fits
-fits : (s : tie.Start invariant-loop decreases-loop) → 6 + length (digits (length s.args.bytes.now)) + length (lines_by day_line 1 s.args.bytes.now) ≤ length s.args.out.now
+fits : (s : tie.Start invariant-loop-i decreases-loop-i) → 6 + length (digits (length s.args.bytes.now)) + length (lines_by day_line 1 s.args.bytes.now) ≤ length s.args.out.now
 fits s = omega (arith, ap length (lines_same 1 s.args.bytes.now), listed_short s.args.bytes.now s.requires.0, listed_size s.args.bytes.now, s.requires.1)
 
-abbrev feed : tie.At-loop invariant-loop decreases-loop → tie.After-put-byte invariant-loop decreases-loop
+abbrev feed : tie.At-loop-i invariant-loop-i decreases-loop-i → tie.After-put_byte-at invariant-loop-i decreases-loop-i
 feed l = l.before.before.before
 
-abbrev number : tie.At-loop invariant-loop decreases-loop → tie.After-put-worded invariant-loop decreases-loop
-number l = (feed l).before.before.before.before
+abbrev number : tie.At-loop-i invariant-loop-i decreases-loop-i → tie.After-put_worded-count invariant-loop-i decreases-loop-i
+number l = l.before.before.before.before.before.before.before
 
-abbrev start : tie.At-loop invariant-loop decreases-loop → tie.Start invariant-loop decreases-loop
-start l = (number l).before.before.before.before.before
+abbrev start : tie.At-loop-i invariant-loop-i decreases-loop-i → tie.Start invariant-loop-i decreases-loop-i
+start l = l.before.before.before.before.before.before.before.before.before.before.before.before.before
 
 -- the first line
-head : (l : tie.At-loop invariant-loop decreases-loop) → Wrote 0 (bytes "days " ++ digits (length (start l).args.bytes.now) ++ bytes "\n") (start l).args.out.now (feed l).put_byte.new.0 (feed l).put_byte.result
-head l = join (number l).put_worded.ensures (feed l).put_byte.ensures (omega arith)
+head : (l : tie.At-loop-i invariant-loop-i decreases-loop-i) → Wrote 0 (bytes "days " ++ digits (length (start l).args.bytes.now) ++ bytes "\n") (start l).args.out.now (feed l).put_byte-at.new.out (feed l).put_byte-at.result
+head l = join (number l).put_worded-count.ensures (feed l).put_byte-at.ensures (omega arith)
 
 -- and what is behind it
-behind : (l : tie.At-loop invariant-loop decreases-loop) → (feed l).put_byte.result + length (lines_by day_line 1 (start l).args.bytes.now) ≤ length (feed l).put_byte.new.0
+behind : (l : tie.At-loop-i invariant-loop-i decreases-loop-i) → (feed l).put_byte-at.result + length (lines_by day_line 1 (start l).args.bytes.now) ≤ length (feed l).put_byte-at.new.out
 behind l = omega (arith, fits (start l), (head l).next, simp length-append at (head l).next, wrote_length (head l) (simp length-append (omega (arith, fits (start l)))))
 
-slice-aggregate-put-worded : tie.Need-slice-aggregate-put-worded invariant-loop decreases-loop
-slice-aggregate-put-worded c = search rules
+put-worded-requires : tie.Need-put_worded-count-requires invariant-loop-i decreases-loop-i
+put-worded-requires c κs = let s = c in simp length-append (omega (arith, fits c.before.before.before.before.before))
 
-put-worded-requires : tie.Need-put-worded-requires invariant-loop decreases-loop
-put-worded-requires c κs = let s = c.before.before.before.before in simp length-append (omega (arith, fits s))
+put-byte-requires : tie.Need-put_byte-at-requires invariant-loop-i decreases-loop-i
+put-byte-requires c κs = let p = c in let s = p in omega (arith, fits c.before.before.before.before.before.before.before.before.before, p.put_worded-count.ensures.next)
 
-put-byte-requires : tie.Need-put-byte-requires invariant-loop decreases-loop
-put-byte-requires c κs = let p = c.before.before.before in let s = p.before.before.before.before.before in omega (arith, fits s, p.put_worded.ensures.next)
-
-loop-holds : tie.Need-loop-init invariant-loop decreases-loop
+loop-holds : tie.Need-loop-i-init invariant-loop-i decreases-loop-i
 loop-holds c = (search rules, refl, rolled_none _ _ _ _)
 
-add-put-day : tie.Need-overflow-add-put-day invariant-loop decreases-loop
+add-put-day : tie.Need-overflow_add-i invariant-loop-i decreases-loop-i
 add-put-day c = search rules
 
-shared-slice-read-put-day : tie.Need-shared-slice-read-put-day invariant-loop decreases-loop
+shared-slice-read-put-day : tie.Need-bounds-bytes-i invariant-loop-i decreases-loop-i
 shared-slice-read-put-day c = search rules
 
-put-day-requires : tie.Need-put-day-requires invariant-loop decreases-loop
+put-day-requires : tie.Need-put_day-at-requires invariant-loop-i decreases-loop-i
 put-day-requires c κs =
-    let l = c.before.before.before in
-    omega (arith, rolled_room l.loop.invariant.2 c.before.before.loop-test.true (behind l), l.loop.invariant.1)
+    let l = c in
+    omega (arith, rolled_room l.loop-i.invariant.2 c.loop-i-test.true (behind c.before.before.before), l.loop-i.invariant.1)
 
-add-i : tie.Need-overflow-add-i invariant-loop decreases-loop
+add-i : tie.Need-overflow_add-i-in-loop-i invariant-loop-i decreases-loop-i
 add-i c = search rules
 
-loop-less : tie.Need-loop-smaller invariant-loop decreases-loop
+loop-less : tie.Need-loop-i-smaller invariant-loop-i decreases-loop-i
 loop-less c = search rules
 
-loop-again : tie.Need-loop-preserved invariant-loop decreases-loop
+loop-again : tie.Need-loop-i-preserved invariant-loop-i decreases-loop-i
 loop-again c =
-    let p = c.before.before in
-    let l = p.before.before.before.before in
-    (search rules, search rules, rolled_more l.loop.invariant.2 p.before.before.before.loop-test.true (omega (arith, behind l)) p.put-day.ensures)
+    let p = c in
+    let l = p in
+    (search rules, search rules, rolled_more l.loop-i.invariant.2 p.loop-i-test.true (omega (arith, behind c.before.before.before.before.before.before)) p.put_day-at.ensures)
 
-same_length : tie.Need-same-length invariant-loop decreases-loop
+same_length : tie.Need-shape_of-out invariant-loop-i decreases-loop-i
 same_length c = search rules
 
-returns : tie.Need-returns invariant-loop decreases-loop
+returns : tie.Need-returns invariant-loop-i decreases-loop-i
 returns c =
-    let l = c.before in
-    listed_joined (start l).args.bytes.now (join (head l) (same_wrote (lines_same 1 (start l).args.bytes.now) (rolled_all l.loop.invariant.2 c.loop-test.false)) (omega arith))
+    let l = c in
+    listed_joined (start c.before).args.bytes.now (join (head c.before) (same_wrote (lines_same 1 (start c.before).args.bytes.now) (rolled_all l.loop-i.invariant.2 c.loop-i-test.false)) (omega arith))
 
-pub put-days-spec : {M : Type 1} → statement M
-put-days-spec =
+pub put_days_spec : {M : Type 1} → statement M
+put_days_spec =
     tie.close
     (tie.spec
-    invariant-loop
-    decreases-loop
-    slice-aggregate-put-worded
+    invariant-loop-i
+    decreases-loop-i
     put-worded-requires
     put-byte-requires
     loop-holds
