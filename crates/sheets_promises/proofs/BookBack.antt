@@ -1,24 +1,20 @@
 -- What the sheet of an accepted book is read as: the book.
 -- Assumes nothing.
-use Rattle.std.specs.Prelude.{ℕ, zero, suc, ◌+◌, ◌*◌, ◌/◌, ◌%◌, ◌≤◌, ◌<◌, ◌≡◌, refl, List, [], ◌∷◌, ◌++◌, Bool, true, false, cond, ltb, take, drop}
+use Rattle.std.specs.Prelude.{ℕ, ◌≡◌, List, true}
 use Rattle.std.proofs.Math.Path.{ap}
-use Rattle.std.proofs.Common.{◌∙◌, arith, ltb-false, le-ltb, length-append, length-take, length-drop, take-append-drop}
+use Rattle.std.proofs.Common.{◌∙◌, le-ltb}
 use Rattle.std.proofs.Math.ListN.{length}
 use Rattle.rules.specs.declared.Terms.{Terms}
 use Rattle.rules.specs.Limits.{longest_book}
 use Rattle.rules.specs.Report.{joined}
-use Rattle.rules.specs.Fields.{Field, Whole, Cut, fields_in, fields_of}
+use Rattle.rules.specs.Fields.{fields_of}
 use Rattle.rules.specs.Book.{Customer, Accepted, judge}
-use Rattle.consequences.specs.Runs.{accepted_runs}
 use Rattle.sheets.specs.Mark.{is_mark}
 use Rattle.sheets.specs.Read.{Made, read}
-use Rattle.sheets.specs.Write.{field_in, mark_line, sheet_of}
-use Rattle.sheets_promises.specs.Bytes.{Each}
-use Rattle.sheets_promises.specs.Order.{Fields, end, alone, seat, accepted_fields}
-use Rattle.sheets_promises.specs.Saving.{saved, total, Spare, seated, few, accepted_spare}
+use Rattle.sheets.specs.Write.{field_in, sheet_of}
+use Rattle.sheets_promises.specs.Order.{accepted_fields}
 use Rattle.sheets_promises.specs.Heads.{behind_mark}
-use Rattle.sheets_promises.specs.Lined.{fields_read, fields_length}
-use Rattle.sheets_promises.specs.Written.{field_bytes, NoCut}
+use Rattle.sheets_promises.specs.Lined.{fields_read}
 use Rattle.sheets_promises.specs.BookBack.{Bytes, sheet_short, book_is}
 
 module _ (m : ℕ) (k : is_mark m ≡ true) (s : List ℕ) (b : Bytes s) (terms : Terms) (cs : List Customer) (e : judge s ≡ Accepted terms cs) where

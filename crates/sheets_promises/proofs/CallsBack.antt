@@ -1,13 +1,12 @@
 -- There and back through both calls, from an accepted book.
 -- Assumes nothing.
-use Rattle.std.specs.Prelude.{ℕ, ◌≤◌, ◌<◌, ◌≡◌, List, true, length}
-use Rattle.std.proofs.Common.{ap, ◌∙◌, arith}
-use borrow.Author.Tests.{lt-ltb, le-ltb}
+use Rattle.std.specs.Prelude.{ℕ, ◌≤◌, ◌≡◌, List, true, length}
+use Rattle.std.proofs.Common.{ap, ◌∙◌}
+use borrow.Author.Tests.{le-ltb}
 use Rattle.rules.specs.declared.Terms.{Terms}
 use Rattle.rules.specs.Book.{Customer, Accepted, judge}
-use Rattle.rules.specs.Answer.{Answer, refused}
+use Rattle.rules.specs.Answer.{Answer}
 use Rattle.sheets.specs.Mark.{is_mark}
-use Rattle.sheets.specs.Read.{Bad, Made, read}
 use Rattle.sheets.specs.Write.{sheet_of}
 use Rattle.sheets.specs.Answers.{left, left_book, to_book, to_sheet}
 use Rattle.sheets_promises.specs.BookBack.{Bytes}

@@ -9,7 +9,7 @@ use Rattle.rules.specs.Book.{Verdict, Refused, Accepted, judge}
 use Rattle.rules.specs.Answer.{Answer, refused}
 use Rattle.laws.specs.Sane.{refused_above}
 use Rattle.sheets.specs.Read.{Read, Bad, Made, read}
-use Rattle.sheets.specs.Answers.{left, left_book, of_read, to_book}
+use Rattle.sheets.specs.Answers.{left_book, of_read, to_book}
 use Rattle.sheets_promises.specs.Reasons.{Reason}
 use Rattle.sheets_promises.proofs.Refused.{refused_because}
 use Rattle.sheets_promises.specs.ReadReasons.{Made-of, bad_sheet, no_space, bad_left, good_left}

@@ -1,8 +1,8 @@
 -- Why a sheet is refused, both ways: specs/Reasons.antt has the reasons. The theorems stand here, and not beside them, since edits of
 -- must-fail/ change a reason.
 -- Assumes nothing.
-use Rattle.std.specs.Prelude.{ℕ, ◌≤◌, ◌<◌, ◌↔◌, ◌≡◌, ltb, length}
-use Rattle.std.proofs.Common.{sym, ap, subst, ◌∙◌, lt-ltb, le-ltb}
+use Rattle.std.specs.Prelude.{ℕ, ◌↔◌, ◌≡◌, length}
+use Rattle.std.proofs.Common.{sym, subst, ◌∙◌, lt-ltb, le-ltb}
 use mathlib.Core.List.{List}
 use Rattle.rules.specs.Limits.{longest_book}
 use Rattle.days.specs.Lines.{lines_of}

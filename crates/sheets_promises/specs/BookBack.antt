@@ -3,7 +3,7 @@
 -- Assumes nothing.
 use Rattle.std.specs.Prelude.{ℕ, zero, suc, ◌+◌, ◌*◌, ◌/◌, ◌%◌, ◌≤◌, ◌<◌, ◌≡◌, refl, List, [], ◌∷◌, ◌++◌, Bool, true, false, cond, ltb, take, drop}
 use Rattle.std.proofs.Math.Path.{ap}
-use Rattle.std.proofs.Common.{◌∙◌, arith, ltb-false, le-ltb, length-append, length-take, length-drop, take-append-drop}
+use Rattle.std.proofs.Common.{arith, ltb-false, length-append, length-take, length-drop, take-append-drop}
 use Rattle.std.proofs.Math.ListN.{length}
 use Rattle.rules.specs.declared.Terms.{Terms}
 use Rattle.rules.specs.Limits.{longest_book}
@@ -12,13 +12,11 @@ use Rattle.rules.specs.Fields.{Field, Whole, Cut, fields_in, fields_of}
 use Rattle.rules.specs.Book.{Customer, Accepted, judge}
 use Rattle.consequences.specs.Runs.{accepted_runs}
 use Rattle.sheets.specs.Mark.{is_mark}
-use Rattle.sheets.specs.Read.{Made, read}
 use Rattle.sheets.specs.Write.{field_in, mark_line, sheet_of}
 use Rattle.sheets_promises.specs.Bytes.{Each}
 use Rattle.sheets_promises.specs.Order.{Fields, end, alone, seat, accepted_fields}
 use Rattle.sheets_promises.specs.Saving.{saved, total, Spare, seated, few, accepted_spare}
-use Rattle.sheets_promises.specs.Heads.{behind_mark}
-use Rattle.sheets_promises.specs.Lined.{fields_read, fields_length}
+use Rattle.sheets_promises.specs.Lined.{fields_length}
 use Rattle.sheets_promises.specs.Written.{field_bytes, NoCut}
 
 -- the fields of a book of bytes are its bytes

@@ -10,9 +10,7 @@ use Rattle.rules.specs.Answer.{Answer, refused}
 use Rattle.days.specs.Lines.{Line}
 use Rattle.sheets.specs.Mark.{is_mark}
 use Rattle.sheets.specs.Read.{Bad, Made, read}
-use Rattle.sheets.specs.Write.{sheet_of}
 use Rattle.sheets.specs.Answers.{left, left_book, to_book, to_sheet}
-use Rattle.sheets_promises.specs.BookBack.{Bytes}
 use Rattle.sheets_promises.specs.SheetBack.{mark_of, sheet_back, made_marked}
 use Rattle.sheets_promises.specs.LineReasons.{BadAt, no_feed, unformed, strays, later}
 use Rattle.sheets_promises.specs.Reasons.{Reason, too_long, no_mark, bad_line}

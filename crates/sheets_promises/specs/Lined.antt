@@ -12,7 +12,6 @@ use Rattle.rules.specs.Report.{joined}
 use Rattle.rules.specs.Fields.{Field, Whole}
 use Rattle.days.specs.Lines.{lines_of}
 use Rattle.sheets.specs.Mark.{is_mark, respelled, in_sheet}
-use Rattle.sheets.specs.Line.{figured}
 use Rattle.sheets.specs.Read.{Made, lines_from}
 use Rattle.sheets.specs.Write.{field_in}
 use Rattle.sheets_promises.specs.Bytes.{Part}

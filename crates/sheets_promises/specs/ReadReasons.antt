@@ -1,19 +1,14 @@
 -- Why the call for a book refuses (both ways: proofs/ReadReasons.antt): 20, 21 and 22 exactly where the sheet has that reason, 23 exactly where the book is longer than the buffer,
 -- and 0 exactly where a good book is left. The book's own table has no number above 13, so that none is taken for another.
 -- Assumes nothing.
-use Rattle.std.specs.Prelude.{ℕ, ◌≤◌, ◌<◌, ◌↔◌, ◌≡◌, Bool, true, false, cond, ltb}
-use Rattle.std.proofs.Math.Path.{refl}
-use Rattle.std.proofs.Common.{sym, ap, subst, ◌∙◌, arith, ltb-true, ltb-false}
+use Rattle.std.specs.Prelude.{ℕ, ◌≤◌, ◌<◌, ◌≡◌}
 use mathlib.Core.List.{List}
 use Rattle.std.proofs.Math.ListN.{length}
-use Rattle.rules.specs.Book.{Verdict, Refused, Accepted, judge}
+use Rattle.rules.specs.Book.{Refused, judge}
 use Rattle.rules.specs.Answer.{Answer, refused}
-use Rattle.laws.specs.Sane.{refused_above}
-use Rattle.sheets.specs.Read.{Read, Bad, Made, read}
-use Rattle.sheets.specs.Answers.{left, left_book, of_read, to_book}
+use Rattle.sheets.specs.Read.{Made, read}
+use Rattle.sheets.specs.Answers.{left}
 use Rattle.sheets_promises.specs.Reasons.{Reason}
-use Rattle.sheets_promises.specs.Calls.{number_most, number_least, sheet_refused, no_room, book_left}
-use Rattle.sheets_promises.specs.Numbers.{judge_small}
 use Rattle.sheets_promises.specs.WriteReasons.{Good}
 
 module _ (s : List ℕ) (room : ℕ) where

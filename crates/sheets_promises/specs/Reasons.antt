@@ -1,16 +1,15 @@
 -- Why a sheet is refused, both ways: 1, 20, 21 and 22, each with its place, exactly where the request says, and a book is made exactly where there is
 -- no reason. Every sheet has one of the reasons or is good, and each leads to its own answer: the theorems, in proofs/Refused.antt.
 -- Assumes nothing.
-use Rattle.std.specs.Prelude.{ℕ, ◌≤◌, ◌<◌, ◌↔◌, ◌≡◌, ltb, length}
-use Rattle.std.proofs.Common.{sym, ap, subst, ◌∙◌, ltb-true, ltb-false, lt-ltb, le-ltb}
+use Rattle.std.specs.Prelude.{ℕ, ◌≤◌, ◌<◌, ◌≡◌, ltb, length}
+use Rattle.std.proofs.Common.{ap, ◌∙◌, ltb-true, ltb-false, le-ltb}
 use mathlib.Core.List.{List}
 use Rattle.rules.specs.Limits.{longest_book}
 use Rattle.days.specs.Lines.{lines_of}
 use Rattle.laws.specs.ByTest.{by_test}
-use Rattle.sheets.specs.Read.{Bad, Made, lines_from, sheet_from, read}
+use Rattle.sheets.specs.Read.{Made, lines_from, sheet_from, read}
 use Rattle.sheets_promises.specs.Heads.{MarkLine, Head, marked, unmarked, head, behind_mark}
-use Rattle.sheets_promises.specs.LineReasons.{BadAt, AllGoodLines, bad_says, good_says, Told, first_bad, all_good, told}
-use Rattle.sheets_promises.specs.SheetBack.{bad_not}
+use Rattle.sheets_promises.specs.LineReasons.{BadAt, AllGoodLines, good_says, Told, first_bad, all_good, told}
 
 pub data Reason (s : List ℕ) : ℕ → ℕ → Type 0 where
   too_long : longest_book < length s → Reason s 1 0

@@ -6,7 +6,6 @@ use Rattle.std.proofs.Common.{sym, subst, ◌∙◌, arith, eq-eqb}
 use Rattle.std.proofs.Math.Path.{ap}
 use mathlib.Core.List.{List, [], ◌∷◌, ◌++◌, append_assoc}
 use Rattle.rules.specs.declared.Terms.{Terms}
-use Rattle.rules.specs.Text.{bytes}
 use Rattle.rules.specs.Limits.{longest_book}
 use Rattle.rules.specs.Report.{joined}
 use Rattle.rules.specs.Fields.{Field, Whole, Cut, fields_of}

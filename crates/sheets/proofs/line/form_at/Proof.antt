@@ -1,7 +1,6 @@
 -- `sheets::line::form_at` meets its contract: a letter of one byte, a first part, and a line feed or three parts more, or it is no line.
 -- Assumes nothing.
 use borrow.Author.Rules.{rules}
-use borrow.Author.Tests.{not-true, not-false}
 use mathlib.Core.Path.{◌≡◌, sym, ◌∙◌}
 use mathlib.Core.Bool.{true}
 use native.Mathlib.Omega.{arith}

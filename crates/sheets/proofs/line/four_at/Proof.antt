@@ -1,7 +1,6 @@
 -- `sheets::line::four_at` meets its contract: each part ends at a semicolon, and the last at a line feed, or it is no line.
 -- Assumes nothing.
 use borrow.Author.Rules.{rules}
-use borrow.Author.Tests.{not-true, not-false}
 use mathlib.Core.Path.{◌≡◌, sym, ◌∙◌}
 use mathlib.Core.Bool.{true}
 use native.Mathlib.Omega.{arith}

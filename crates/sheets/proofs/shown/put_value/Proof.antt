@@ -3,7 +3,7 @@
 use mathlib.Core.Path.{◌≡◌, sym, ◌∙◌}
 use mathlib.Core.Bool.{true, false}
 use borrow.Author.Rules.{rules}
-use Rattle.sheets.specs.Line.{figured, traded}
+use Rattle.sheets.specs.Line.{figured}
 use Rattle.sheets.proofs.Tags.{as_same, value_figure, value_trade, value_carried}
 use Rattle.sheets.proofs.shown.put_value.Statement.{statement}
 use Rattle.sheets.proofs.shown.put_value.Tie as tie

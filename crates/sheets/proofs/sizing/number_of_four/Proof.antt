@@ -1,7 +1,7 @@
 -- `sheets::sizing::number_of_four` meets its contract, by the letter: K, H and Q of a seat, or price and lots of a trade.
 -- Assumes nothing.
 use borrow.Author.Rules.{rules}
-use borrow.Author.Tests.{eq-eqb, ne_eqb, not-true, not-false}
+use borrow.Author.Tests.{eq-eqb, ne_eqb}
 use mathlib.Core.Path.{sym, ◌∙◌}
 use Rattle.sheets.proofs.Numbers.{other_number, seat_number, trade_number}
 use Rattle.sheets.proofs.sizing.number_of_four.Statement.{statement}

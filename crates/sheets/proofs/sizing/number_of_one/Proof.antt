@@ -1,7 +1,6 @@
 -- `sheets::sizing::number_of_one` meets its contract, by the letter.
 -- Assumes nothing.
 use borrow.Author.Rules.{rules}
-use borrow.Author.Tests.{not-true, not-false}
 use mathlib.Core.Path.{sym, ◌∙◌}
 use Rattle.sheets.proofs.Numbers.{one_carried, one_other, one_figured}
 use Rattle.sheets.proofs.sizing.number_of_one.Statement.{statement}

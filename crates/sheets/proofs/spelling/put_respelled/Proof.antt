@@ -10,7 +10,7 @@ use borrow.Author.Rules.{rules}
 use lib.ListN.{length, drop, length-set, length-map, drop_of_length-le}
 use lib.Seq.{drop-cons}
 use Rattle.writing.specs.Written.{written, written_nothing, written_first}
-use Rattle.sheets.specs.Mark.{respelt, respelled}
+use Rattle.sheets.specs.Mark.{respelled}
 use Rattle.sheets.proofs.spelling.put_respelled.Statement.{statement}
 use Rattle.sheets.proofs.spelling.put_respelled.Tie as tie
 

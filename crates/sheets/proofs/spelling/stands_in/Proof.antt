@@ -47,7 +47,7 @@ loop-again c =
     let h : l.loop-i.i < length a.s.now = search rules in (
       search rules,
       elim c.if-s-i.branch [
-        then-s-i w ↦ rw w.found-is (sym (here l.loop-i.found a.byte a.s.now _ h w.if-s-i.true) ∙ l.loop-i.invariant.1)
+        | then-s-i w ↦ rw w.found-is (sym (here l.loop-i.found a.byte a.s.now _ h w.if-s-i.true) ∙ l.loop-i.invariant.1)
         | else-s-i w ↦ rw w.found-is (sym (elsewhere l.loop-i.found a.byte a.s.now _ h w.if-s-i.false) ∙ l.loop-i.invariant.1)
       ],
     )
