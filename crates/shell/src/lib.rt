@@ -45,12 +45,19 @@ const FRONT_ROOM: usize = 16;
 // Room for the words of an error.
 const WORDS_ROOM: usize = 256;
 
-// The numbers that the system has for a word that is missing, a name that is too long and one that is no text.
+// The numbers that the system has for a word that is missing (EINVAL), a name that is too long and one that is no text.
 const MISSING: i32 = 22;
 
 const TOO_LONG: i32 = 36;
 
 const NO_TEXT: i32 = 84;
+
+// Those of a file that cannot be handed over to a device, since it has none (MISSING too).
+const READ_ONLY: i32 = 30;
+
+const NO_CALL: i32 = 38;
+
+const UNSUPPORTED: i32 = 95;
 
 // The process's own name for its standard output.
 const OUTPUT: &str = "/proc/self/fd/1";
@@ -258,6 +265,14 @@ pub fn misused(rt: &HostRuntime, program: &[u8], i: usize, what: &[u8]) -> u32
     FAILED
 }
 
+// Whether a file has nothing to hand over, by what its system says of that: then nothing that was written can be lost there.
+fn keeps_nothing(why: Error) -> bool {
+    matches!(
+        why.raw_os_error(),
+        Some(MISSING | READ_ONLY | NO_CALL | UNSUPPORTED)
+    )
+}
+
 // Hands a file that standard output goes to over to its device: some systems tell only there that it could not be written. (What a close
 // says std tells nobody.)
 fn keep_file(rt: &HostRuntime) -> io::Result<()> {
@@ -270,7 +285,10 @@ fn keep_file(rt: &HostRuntime) -> io::Result<()> {
     let Ok(file) = OpenOptions::new().write(true).open(rt, OUTPUT) else {
         return Ok(());
     };
-    file.sync_data()
+    match file.sync_data() {
+        Err(why) if keeps_nothing(why) => Ok(()),
+        ended => ended,
+    }
 }
 
 // All of a text to standard output, which has to be there where the text is empty too.
