@@ -33,6 +33,7 @@ CORES = [
     re.compile(r"the two types are .*? \(found\)"),
     re.compile(r"expected type `[^`]*`,? but this has type `[^`]*`"),
     re.compile(r"`\S+` of (?:\./)?proofs/\S+ must prove: .*?(?= names you can use)"),
+    re.compile(r"(?<= )[^`]{1,170}` is none"),
     re.compile(r"`search`: no proof of `[^`]*`?"),
     re.compile(r"error: `[^`]*`: .*"),
 ]
