@@ -63,7 +63,9 @@ def core(thing):
             values = re.match(r"may be false: the known facts allow (.*)", text)
             if values:
                 pairs = [it for it in re.findall(r"`[^`]*` = `[^`]*`", values[1]) if not re.search(r"\.Lts\b|well_formed|mir\.|mathlib", it)]
-                text = f"may be false: the known facts allow {', '.join(pairs[:2])}" if pairs else text
+                # (those that stand side by side)
+                made = [f"may be false: the known facts allow {', '.join(pairs[:2])}", f"may be false: the known facts allow {pairs[0]}", *pairs] if pairs else []
+                text = next((it for it in made if it in thing), text)
             return rank, text if len(text) <= LONGEST else text[:LONGEST].rsplit(" ", 1)[0]
     return len(CORES), ""
 
