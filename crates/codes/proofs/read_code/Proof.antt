@@ -1,5 +1,6 @@
 -- `codes::read_code` meets its contract. The loop's invariant: the key has i digits, and with what is left it makes the code.
 -- Assumes nothing.
+mod Named
 use borrow.Author.Rules.{rules}
 use Prim.Native.Nat.{◌+◌, ◌*◌, ◌^◌, ◌-◌, ◌≤◌, ◌<◌}
 use mathlib.Core.Path.{◌≡◌, sym, ap, ◌∙◌}
@@ -10,13 +11,8 @@ use Rattle.codes.specs.declared.Code.TheVariants.{Key}
 use Rattle.codes.specs.Codes.{code_of}
 use Rattle.codes.proofs.Places.{rest, starts, too_long, empty, stops, goes, ends, longer, padded, short}
 use Rattle.codes.proofs.read_code.Statement.{statement}
+use Rattle.codes.proofs.read_code.Proof.Named.{invariant-loop-i, decreases-loop-i, returns-2}
 use Rattle.codes.proofs.read_code.Tie as tie
-
-abbrev invariant-loop-i : tie.invariant-loop-i
-invariant-loop-i v n key₀ i₀ key i = (i ≤ length v) × (key < 37 ^ i) × (code_of v ≡ rest key i (drop i v))
-
-abbrev decreases-loop-i : tie.decreases-loop-i
-decreases-loop-i v n key₀ i₀ key i = length v - i
 
 -- a digit more
 more :
@@ -41,9 +37,6 @@ worth c =
 
 returns : tie.Need-returns-then-n-eq0 invariant-loop-i decreases-loop-i
 returns c = sym (empty c.before.before.args.v.now c.if-n-eq0.true)
-
-returns-2 : tie.Need-returns-then-n-gt-LONGEST_CODE invariant-loop-i decreases-loop-i
-returns-2 c = sym (too_long c.before.before.before.args.v.now c.if-n-gt-LONGEST_CODE.true)
 
 loop-holds : tie.Need-loop-i-init invariant-loop-i decreases-loop-i
 loop-holds c = (search rules, search rules, starts c.before.before.before.args.v.now (omega arith) (omega arith))

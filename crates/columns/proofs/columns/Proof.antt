@@ -1,45 +1,22 @@
 -- The roll, and the cascade over its columns, are the view.
 -- Assumes nothing.
-use Prim.Native.Nat.{ℕ}
-use mathlib.Core.Path.{◌≡◌, sym, subst}
-use mathlib.Core.List.{List}
+mod Named
 use native.Mathlib.Omega.{arith}
-use Rattle.rules.specs.Answer.{Answer as Answer01}
 use Rattle.roll.specs.Roll.{Room}
-use Rattle.answers.specs.declared.Answer.{Answer}
-use Rattle.allotment.specs.Rolls.{refuses, Accepts, accepts, steady, shows}
-use Rattle.columns.specs.View.{Runs, Viewed}
-use Rattle.columns.proofs.Fitting.{refused_so}
-use Rattle.columns.proofs.Views.{stops, Goes, goes}
+use Rattle.allotment.specs.Rolls.{steady, shows}
+use Rattle.columns.proofs.Views.{Goes, goes}
 use borrow.Author.Rules.{rules}
 use Rattle.columns.proofs.columns.Statement.{statement}
+use Rattle.columns.proofs.columns.Proof.Named.{rolled, begin, accepted, left, same, returns}
 use Rattle.columns.proofs.columns.Tie as tie
-
-abbrev rolled : tie.After-struct_known-1 → tie.After-read_roll-roll
-rolled k = k.before.before.before.before.before.before
-
-abbrev begin : tie.After-read_roll-roll → tie.Start
-begin r = r.before.before.before.before.before.before.before.before.before.before
 
 wide : (r : tie.After-read_roll-roll) → let l = r.read_roll-roll.new in Room l.keys l.starts l.standings l.stakes
 wide r = search rules
-
-accepted : (e : tie.Else-refused-ne-ACCEPTED) → let r = rolled e.before in let l = r.read_roll-roll.new in
-    Accepts (begin r).args.book.now l.keys l.starts l.standings l.stakes r.read_roll-roll.result r.read_roll-roll.ensures.rolled
-accepted e = let r = rolled e.before in let l = r.read_roll-roll.new in
-    accepts (begin r).args.book.now l.keys l.starts l.standings l.stakes r.read_roll-roll.result r.read_roll-roll.ensures.rolled e.if-refused-ne-ACCEPTED.false
-
-abbrev left : tie.After-close-closed → tie.Else-refused-ne-ACCEPTED
-left d = d.before.before.before.before
 
 gone : (d : tie.After-close-closed) → let r = rolled (left d).before in let l = r.read_roll-roll.new in
     Goes (begin r).args.book.now l.standings l.stakes r.read_roll-roll.result.count d.close-closed.result
 gone d = let r = rolled (left d).before in let l = r.read_roll-roll.new in let a = accepted (left d) in
     goes a.accepted (shows (begin r).args.book.now l.keys l.starts l.standings l.stakes r.read_roll-roll.result r.read_roll-roll.ensures.rolled a (wide r) d.close-closed.result d.close-closed.ensures)
-
--- the answers to all runs are the same ones
-same : {a b : (Runs → List ℕ) → Answer01} {entry exit : Runs} {r : Answer} → a ≡ b → Viewed b entry exit r → Viewed a entry exit r
-same {a} {b} {entry} {exit} {r} e v = subst (λ (f : (Runs → List ℕ) → Answer01). Viewed f entry exit r) (sym e) v
 
 slice-aggregate-read-roll : tie.Need-slice_bounds-read_roll-end
 slice-aggregate-read-roll c = search rules
@@ -55,12 +32,6 @@ slice-aggregate-read-roll-4 c = search rules
 
 read-roll-requires : tie.Need-read_roll-roll-requires
 read-roll-requires c κs = search rules
-
-returns : tie.Need-returns-then-refused-ne-ACCEPTED
-returns c =
-    let r = rolled c.before in
-    let l = r.read_roll-roll.new in
-    same (stops (begin r).args.book.now (refuses (begin r).args.book.now l.keys l.starts l.standings l.stakes r.read_roll-roll.result r.read_roll-roll.ensures.rolled c.if-refused-ne-ACCEPTED.true) _) (refused_so _ _ _)
 
 slice-aggregate-close : tie.Need-slice_bounds-close-end
 slice-aggregate-close c = search rules

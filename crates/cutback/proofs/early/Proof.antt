@@ -1,5 +1,6 @@
 -- `cutback::early` meets its contract, test by test.
 -- Assumes nothing.
+mod Named
 use mathlib.Core.Path.{◌≡◌, sym, ◌∙◌}
 use mathlib.Core.Bool.{false}
 use lib.Dec.{ltb, eqb}
@@ -7,17 +8,8 @@ use borrow.Author.Tests.{eq-eqb, ne_eqb, lt-ltb, le-ltb}
 use Rattle.cutback.specs.Judge.{grams_bad}
 use borrow.Author.Rules.{rules}
 use Rattle.cutback.proofs.early.Statement.{statement}
+use Rattle.cutback.proofs.early.Proof.Named.{known, weighed, coded, returns-4}
 use Rattle.cutback.proofs.early.Tie as tie
-
--- what each test says where it fails
-known : (c : tie.Else-tons-eq0) → eqb c.args.tons 0 ≡ false
-known c = ne_eqb c.args.tons 0 c.if-tons-eq0.false
-
-weighed : (c : tie.Else-grams_bad) → grams_bad c.args.grams ≡ false
-weighed c = sym c.grams_bad.ensures ∙ c.if-grams_bad.false
-
-coded : (c : tie.Else-codes-lots) → ltb c.args.codes c.args.lots ≡ false
-coded c = let a = c.args in le-ltb a.codes a.lots c.if-codes-lots.false
 
 returns : tie.Need-returns-then-tons-eq0
 returns c = simp (eq-eqb c.args.tons 0 c.if-tons-eq0.true)
@@ -30,9 +22,6 @@ returns-2 c = simp (known c.before.before, sym c.grams_bad.ensures ∙ c.if-gram
 
 returns-3 : tie.Need-returns-then-bad
 returns-3 c = let e = c in simp (known c.before.before.before, weighed c.before, c.if-bad.true)
-
-returns-4 : tie.Need-returns-then-codes-lots
-returns-4 c = let t = c in let e = t in let a = e.args in simp (known c.before.before.before.before, weighed c.before.before, t.if-bad.false, lt-ltb a.codes a.lots c.if-codes-lots.true)
 
 count-bad-requires : tie.Need-count_bad-requires
 count-bad-requires c κs = search rules

@@ -1,22 +1,21 @@
 -- Number 1 first, then the terms, then the customers.
 -- Assumes nothing.
-use Prim.Native.Nat.{ℕ, ◌≤◌, ◌<◌}
-use mathlib.Core.Path.{◌≡◌, refl, sym, ap, subst, ◌∙◌}
+mod Named
+use Prim.Native.Nat.{ℕ, ◌≤◌}
+use mathlib.Core.Path.{◌≡◌, refl, sym, ap, ◌∙◌}
 use mathlib.Core.List.{List}
-use native.Mathlib.Omega.{arith}
 use lib.ListN.{length}
-use borrow.Author.Tests.{lt-ltb, le-ltb}
+use borrow.Author.Tests.{le-ltb}
 use Rattle.rules.specs.Limits.{longest_book}
 use Rattle.rules.specs.Refusal as refusal
-use Rattle.rules.specs.Book.{Verdict, Refused, judge}
+use Rattle.rules.specs.Book.{judge}
 use Rattle.terms.specs.declared.TermsAt.{TermsAt}
 use Rattle.terms.specs.Terms.{terms_of}
 use Rattle.terms.proofs.Terms.{then_walk, terms_mean}
-use Rattle.terms.proofs.Within.{SoundAt, terms_within}
-use Rattle.roll.specs.declared.Roll.{Roll}
-use Rattle.roll.specs.Roll.{Columns, Rolled, Left, filled_after, filled_by}
+use Rattle.roll.specs.Roll.{Columns, filled_after, filled_by}
 use borrow.Author.Rules.{rules}
 use Rattle.roll.proofs.read_roll.Statement.{statement}
+use Rattle.roll.proofs.read_roll.Proof.Named.{as-judged, returns, read-customers-requires}
 use Rattle.roll.proofs.read_roll.Tie as tie
 
 -- a book that is not too long is judged from its terms on
@@ -24,46 +23,18 @@ judged : (s : List ℕ) → length s ≤ longest_book → (t : TermsAt) → term
 unfolding judge
 judged s h t e = rw (le-ltb longest_book (length s) h) (terms_mean s ∙ ap (then_walk s) e)
 
-too_long : (s : List ℕ) → longest_book < length s → judge s ≡ Refused refusal.too_long 0
-unfolding judge
-too_long s h = rw (lt-ltb longest_book (length s) h)
-
--- the columns: untouched, or filled behind the terms
-long_filled : (s : List ℕ) (c : Columns) → longest_book < length s → filled_by s c ≡ c
-unfolding filled_by
-long_filled s c h = rw (lt-ltb longest_book (length s) h) refl
-
 terms-filled : (s : List ℕ) (c : Columns) → length s ≤ longest_book → (t : TermsAt) → terms_of s ≡ t → filled_by s c ≡ filled_after s t c
 unfolding filled_by
 terms-filled s c h t e = rw (le-ltb longest_book (length s) h, e) refl
 
--- the same under an equal verdict and equal columns
-as-judged : (s keys starts standings stakes : List ℕ) {v w : Verdict} {f g : Columns} (r : Roll) → w ≡ v → g ≡ f → Left s v f keys starts standings stakes r → Left s w g keys starts standings stakes r
-as-judged s keys starts standings stakes r e d h =
-    record { rolled = subst (λ x. Rolled s x keys starts standings stakes r) (sym e) h.rolled; filled = h.filled ∙ sym d }
-
 refused-requires : tie.Need-refused-requires
 refused-requires c κs = search rules
-
-returns : tie.Need-returns-then-book-gt-LONGEST_BOOK
-returns c =
-    let s = c.args in
-    let h = c.if-book-gt-LONGEST_BOOK.true in
-    as-judged s.book.now s.keys.now s.starts.now s.standings.now s.stakes.now c.refused.result (too_long s.book.now h) (long_filled s.book.now _ h)
-    (record { rolled = c.refused.ensures; filled = refl })
 
 read-terms-requires : tie.Need-read_terms-requires
 read-terms-requires c κs = search rules
 
 enum-known-terms : tie.Need-enum_known-terms
 enum-known-terms c = search rules
-
-read-customers-requires : tie.Need-read_customers-requires
-read-customers-requires c κs =
-    let x = c in
-    let t = x in
-    let s = t in
-    (omega (arith, t.if-book-gt-LONGEST_BOOK.false), (subst (SoundAt s.args.book.now) (sym t.read_terms.ensures ∙ x.in-Read.is) (terms_within s.args.book.now), s.requires))
 
 enum-known-r : tie.Need-enum_known-r
 enum-known-r c = search rules

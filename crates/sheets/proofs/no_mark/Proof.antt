@@ -1,32 +1,14 @@
 -- A comma, a point, or neither.
 -- Assumes nothing.
-use Prim.Native.Nat.{ℕ}
-use Prim.Native.Char.{code}
-use mathlib.Core.Path.{◌≡◌, sym}
-use mathlib.Core.Bool.{true, false, not}
-use borrow.Author.Tests.{eq-eqb, ne_eqb}
-use Rattle.sheets.specs.Mark.{is_mark}
+mod Named
+use mathlib.Core.Path.{sym}
+use mathlib.Core.Bool.{true}
 use Rattle.sheets.proofs.no_mark.Statement.{statement}
+use Rattle.sheets.proofs.no_mark.Proof.Named.{a_comma, returns-2, returns-3}
 use Rattle.sheets.proofs.no_mark.Tie as tie
-
-module _ (m : ℕ) where
-  a_comma : m ≡ code "," → not (is_mark m) ≡ false
-  a_comma e = simp (eq-eqb m (code ",") e)
-
-  a_point : (m ≡ code "," → ⊥) → m ≡ code "." → not (is_mark m) ≡ false
-  a_point c e = simp (ne_eqb m (code ",") c, eq-eqb m (code ".") e)
-
-  neither : (m ≡ code "," → ⊥) → (m ≡ code "." → ⊥) → not (is_mark m) ≡ true
-  neither c p = simp (ne_eqb m (code ",") c, ne_eqb m (code ".") p)
 
 returns : tie.Need-returns-then-mark-eq44
 returns c = sym (a_comma c.args.mark c.if-mark-eq44.true)
-
-returns-2 : tie.Need-returns-then-mark-eq46
-returns-2 c = sym (a_point c.args.mark c.if-mark-eq44.false c.if-mark-eq46.true)
-
-returns-3 : tie.Need-returns
-returns-3 c = sym (neither c.args.mark c.if-mark-eq44.false c.if-mark-eq46.false)
 
 pub no_mark_spec : {M : Type 1} → statement M
 no_mark_spec = tie.close (tie.spec returns returns-2 returns-3)

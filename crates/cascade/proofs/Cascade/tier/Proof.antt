@@ -1,5 +1,6 @@
 -- One tier: where nobody is in it, nothing moves; once x is found, the laws of Tier.antt say that the two divisions over the array are those over the lines.
 -- Assumes nothing.
+mod Named
 use mathlib.Core.Path.{◌∙◌}
 use native.Mathlib.Omega.{arith}
 use borrow.Author.Rules.{rules}
@@ -7,13 +8,11 @@ use Rattle.cascade.specs.Columns.{Columns, columns}
 use Rattle.cascade.proofs.Tier.{Found}
 use Rattle.cascade.proofs.Tier as law
 use Rattle.cascade.proofs.Cascade.tier.Statement.{statement}
+use Rattle.cascade.proofs.Cascade.tier.Proof.Named.{start, returns}
 use Rattle.cascade.proofs.Cascade.tier.Tie as tie
 
 abbrev cols : tie.Start → Columns
 cols s = let a = s.args in columns a.keys.now a.standings.now a.stakes.now a.count
-
-abbrev start : tie.After-staked-offered → tie.Start
-start o = o.before.before.before.before
 
 abbrev waited : tie.After-lesser-x → tie.After-weigh-pending
 waited l = l.before.before
@@ -26,9 +25,6 @@ began l = l.before.before.before.before.before.before.before.before.before.befor
 
 staked-requires : tie.Need-staked-offered-requires
 staked-requires c κs = (law.staked c.requires.0).stood
-
-returns : tie.Need-returns-then-offered-eq0
-returns c = let o = c in let p = (start c.before).requires in law.nobody p.0 p.1.0 p.1.1 o.staked-offered.ensures c.if-offered-eq0.true
 
 slice-aggregate-weigh : tie.Need-slice_bounds-weigh-end
 slice-aggregate-weigh c = search rules

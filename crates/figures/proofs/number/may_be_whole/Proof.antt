@@ -1,21 +1,13 @@
 -- `figures::number::may_be_whole` meets its contract: at each `return` the tests on the way say which case of `mayBeWhole` holds.
 -- Assumes nothing.
+mod Named
 use Rattle.std.proofs.Common.{◌≡◌, not, ◌||◌, eqb, length, get_or, sym, ◌∙◌, arith, rules, eq-eqb, ne_eqb, le-leb}
 use borrow.Author.Tests.{lt-leb}
 use Rattle.rules.specs.Text.{is}
 use Rattle.figures.specs.Numbers.{may_be_whole}
 use Rattle.figures.proofs.number.may_be_whole.Statement.{statement}
+use Rattle.figures.proofs.number.may_be_whole.Proof.Named.{sized, returns-3, returns-4}
 use Rattle.figures.proofs.number.may_be_whole.Tie as tie
-
--- as many bytes as there may be
-sized :
-    (c : tie.Else-size-gt-MOST_DIGITS) →
-    let s = c in
-    may_be_whole s.args.v.now
-    ≡ (not (is "0" (get_or s.args.v.now 0 0)) || eqb (length s.args.v.now) 1)
-sized c =
-    let v = c.args.v.now in
-    simp (le-leb 1 (length v) (omega arith), le-leb (length v) 7 c.if-size-gt-MOST_DIGITS.false)
 
 returns : tie.Need-returns-then-size-eq0
 returns c = simp (lt-leb 1 (length c.args.v.now) (omega arith))
@@ -27,16 +19,6 @@ returns-2 c =
 
 shared-slice-read-if3 : tie.Need-bounds-v-0
 shared-slice-read-if3 c = search rules
-
-returns-3 : tie.Need-returns-then-size-gt1
-returns-3 c =
-    let v = c.args.v.now in
-    sym (sized c.before.before.before ∙ simp (eq-eqb _ _ c.if-v-eq48.true, ne_eqb (length v) 1 (λ e. omega arith)))
-
-returns-4 : tie.Need-returns-else-size-gt1
-returns-4 c =
-    let v = c.args.v.now in
-    sym (sized c.before.before.before ∙ simp (eq-eqb _ _ c.if-v-eq48.true, eq-eqb (length v) 1 (omega arith)))
 
 returns-5 : tie.Need-returns-else-v-eq48
 returns-5 c = sym (sized c.before.before ∙ simp (ne_eqb _ _ c.if-v-eq48.false))

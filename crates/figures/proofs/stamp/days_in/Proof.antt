@@ -1,28 +1,17 @@
 -- `figures::stamp::days_in` meets its contract: the tests on the way are those of the definition.
 -- Assumes nothing.
+mod Named
 use Rattle.std.proofs.Common.{◌≡◌, ℕ, ◌+◌, ◌%◌, ◌≤◌, Bool, true, false, cond, eqb, sym, ap, ◌∙◌, arith, eq-eqb, ne_eqb}
 use Rattle.rules.specs.Stamp.{days_in}
 use Rattle.figures.proofs.Dates.{leap_by}
 use Rattle.figures.proofs.stamp.days_in.Statement.{statement}
+use Rattle.figures.proofs.stamp.days_in.Proof.Named.{february, returns, returns-3, returns-7}
 use Rattle.figures.proofs.stamp.days_in.Tie as tie
-
--- February, by the year
-february : (y month : ℕ) (b : Bool) → y ≤ 99 → month ≡ 2 → eqb (y % 4) 0 ≡ b → days_in (2_000 + y) month ≡ cond b 29 28
-february y month b h e t =
-    ap (days_in (2_000 + y)) e ∙ ap (λ (x : Bool). cond {A = ℕ} x 29 28) (leap_by y h ∙ t)
-
-returns : tie.Need-returns-then-y-eq0
-returns c =
-    let s = c in
-    sym (february s.args.y s.args.month true s.requires c.if-month-eq2.true (eq-eqb (s.args.y % 4) 0 (omega arith)))
 
 returns-2 : tie.Need-returns-then-month-eq2
 returns-2 c =
     let s = c in
     sym (february s.args.y s.args.month false s.requires c.if-month-eq2.true (ne_eqb (s.args.y % 4) 0 (λ e. omega arith)))
-
-returns-3 : tie.Need-returns-then-month-eq4
-returns-3 c = sym (ap (days_in (2_000 + c.args.y)) c.if-month-eq4.true)
 
 returns-4 : tie.Need-returns-then-month-eq6
 returns-4 c = sym (ap (days_in (2_000 + c.args.y)) c.if-month-eq6.true)
@@ -32,14 +21,6 @@ returns-5 c = sym (ap (days_in (2_000 + c.args.y)) c.if-month-eq9.true)
 
 returns-6 : tie.Need-returns-then-month-eq11
 returns-6 c = sym (ap (days_in (2_000 + c.args.y)) c.if-month-eq11.true)
-
-returns-7 : tie.Need-returns
-returns-7 c =
-    let f = c in
-    let e = f in
-    let d = e in
-    simp
-    (ne_eqb _ _ d.if-month-eq2.false, ne_eqb _ _ d.if-month-eq4.false, ne_eqb _ _ e.if-month-eq6.false, ne_eqb _ _ f.if-month-eq9.false, ne_eqb _ _ c.if-month-eq11.false)
 
 pub days_in_spec : {M : Type 1} → statement M
 days_in_spec = tie.close (tie.spec returns returns-2 returns-3 returns-4 returns-5 returns-6 returns-7)

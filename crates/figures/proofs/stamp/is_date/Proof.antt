@@ -1,10 +1,12 @@
 -- `figures::stamp::is_date` meets its contract: at each `return` the tests on the way say which case of `isDate` holds.
 -- Assumes nothing.
+mod Named
 use Rattle.std.proofs.Common.{◌≡◌, ◌+◌, ◌≤◌, ◌&&◌, leb, sym, ◌∙◌, arith, rules, le-leb}
 use borrow.Author.Tests.{lt-leb}
 use Rattle.rules.specs.Stamp.{days_in, is_date}
 use Rattle.figures.proofs.Dates.{days_least}
 use Rattle.figures.proofs.stamp.is_date.Statement.{statement}
+use Rattle.figures.proofs.stamp.is_date.Proof.Named.{returns}
 use Rattle.figures.proofs.stamp.is_date.Tie as tie
 
 -- a year and a month that are such: the day tells
@@ -16,11 +18,6 @@ before-day c =
     let a = c.args in
     simp
     (le-leb 2_000 (2_000 + a.y) (omega arith), le-leb (2_000 + a.y) 2_099 (omega arith), le-leb 1 a.month (omega arith), le-leb a.month 12 (omega arith))
-
-returns : tie.Need-returns-then-y-gt99
-returns c =
-    let a = c.args in
-    simp (le-leb 2_000 (2_000 + a.y) (omega arith), lt-leb (2_000 + a.y) 2_099 (omega arith))
 
 returns-2 : tie.Need-returns-then-month-lt1
 returns-2 c =

@@ -1,8 +1,10 @@
 -- `figures::start::before_blank` meets its contract: outside of the bytes stands no blank.
 -- Assumes nothing.
+mod Named
 use Rattle.std.proofs.Common.{sym, arith, rules}
 use Rattle.figures.proofs.Fronts.{blank_inside, before_blank_lem, no_blank}
 use Rattle.figures.proofs.start.before_blank.Statement.{statement}
+use Rattle.figures.proofs.start.before_blank.Proof.Named.{returns-3, returns-4}
 use Rattle.figures.proofs.start.before_blank.Tie as tie
 
 enum-known-start : tie.Need-enum_known-start
@@ -21,12 +23,6 @@ returns-2 c =
 
 shared-slice-read-if2 : tie.Need-bounds-v-end
 shared-slice-read-if2 c = search rules
-
-returns-3 : tie.Need-returns-then-v-end-ne32
-returns-3 c = sym (no_blank _ _ _ _ _ c.in-Ends.is c.if-v-end-ne32.true)
-
-returns-4 : tie.Need-returns
-returns-4 c = sym (before_blank_lem _ _ _ _ _ c.in-Ends.is c.if-v-end-ne32.false)
 
 pub before_blank_spec : {M : Type 1} → statement M
 before_blank_spec =

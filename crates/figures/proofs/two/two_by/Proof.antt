@@ -1,15 +1,14 @@
 -- `figures::two::two_by` meets its contract: `Twos` says what is left of two bytes.
 -- Assumes nothing.
+mod Named
 use Rattle.std.proofs.Common.{rules}
 use Rattle.figures.proofs.Twos.{no_ones, two_wrapped}
 use Rattle.figures.proofs.two.two_by.Statement.{statement}
+use Rattle.figures.proofs.two.two_by.Proof.Named.{returns, returns-2}
 use Rattle.figures.proofs.two.two_by.Tie as tie
 
 digit-of-requires : tie.Need-digit_of-requires
 digit-of-requires c κs = search rules
-
-returns : tie.Need-returns-then-digit_of-gt9
-returns c = no_ones _ _ (c.digit_of.ensures.none c.if-digit_of-gt9.true)
 
 mul-wrapping-sub-u64 : tie.Need-overflow_mul-tens
 mul-wrapping-sub-u64 c = search rules
@@ -19,11 +18,6 @@ add-wrapping-sub-u64 c = search rules
 
 wrapping-sub-u64-requires : tie.Need-wrapping_sub_u64-requires
 wrapping-sub-u64-requires c κs = search rules
-
-returns-2 : tie.Need-returns
-returns-2 c =
-    let e = c in
-    two_wrapped _ _ _ (search rules) (e.digit_of.ensures.digit e.if-digit_of-gt9.false).0 (search rules) c.wrapping_sub_u64.ensures
 
 pub two_by_spec : {M : Type 1} → statement M
 two_by_spec =

@@ -1,5 +1,6 @@
 -- `locks::lock::raised` meets its contract, by its tests.
 -- Assumes nothing.
+mod Named
 use Prim.Native.Nat.{ℕ, ◌+◌, ◌-◌, ◌≤◌}
 use mathlib.Core.Path.{◌≡◌}
 use native.Mathlib.Omega.{arith}
@@ -7,6 +8,7 @@ use borrow.Author.Tests.{le-leb, lt-leb, leb-true, leb-false}
 use lib.Dec.{leb}
 use Rattle.laws.specs.ByTest.{by_test}
 use Rattle.locks.proofs.lock.raised.Statement.{statement}
+use Rattle.locks.proofs.lock.raised.Proof.Named.{returns-2}
 use Rattle.locks.proofs.lock.raised.Tie as tie
 
 -- the raise as a difference
@@ -17,9 +19,6 @@ within from to h = by_test (leb to (from + 6_000))
 
 returns : tie.Need-returns-then-to-from
 returns c = simp (lt-leb (c.args.from + 3_000) c.args.to (omega arith))
-
-returns-2 : tie.Need-returns-then-raise-lt-LEAST_RAISE
-returns-2 c = let a = c.args in simp (lt-leb (a.from + 3_000) a.to (omega arith))
 
 returns-3 : tie.Need-returns
 returns-3 c = let a = c.args in simp (le-leb (a.from + 3_000) a.to (omega arith)) (within a.from a.to (omega arith))
