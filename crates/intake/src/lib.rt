@@ -117,7 +117,7 @@ pub fn begin(
 ) -> Long
     ensures { LongCame result buffer.new }
 {
-    let asked = shell::ask(rt, shell::word_count(rt));
+    let asked = shell::ask(rt, shell::word_count(rt, usize::MAX));
     begin_as(rt, asked, program, help, version, buffer)
 }
 

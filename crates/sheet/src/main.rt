@@ -93,6 +93,9 @@ fn spelling_of(word: &[u8]) -> Spelling
     Spelling::Other
 }
 
+// The program's name and the two words that it tells apart: whether one of them is missing.
+const WORDS: usize = 3;
+
 // What the word at place 1 asks for, and the one at place 2.
 fn first_word(rt: &HostRuntime) -> Task {
     let mut word = [0u8; FRONT_ROOM];
@@ -229,7 +232,7 @@ fn run(rt: &HostRuntime, count: usize) -> u32
 pub fn frundavel_main(rt: &HostRuntime) -> i32
     ensures { Exit result }
 {
-    run(rt, shell::word_count(rt)) as i32
+    run(rt, shell::word_count(rt, WORDS)) as i32
 }
 
 // The runtime is what the program has of the system, and its status is that of the process.

@@ -226,14 +226,16 @@ pub fn failed(rt: &HostRuntime, program: &[u8], what: &[u8], why: Error) -> u32
     FAILED
 }
 
-// How many words there are, with the program's name.
-pub fn word_count(rt: &HostRuntime) -> usize {
-    for i in 0..usize::MAX {
+// How many words there are, with the program's name, counted up to so many. More than that no contract can say of what the system hands over.
+pub fn word_count(rt: &HostRuntime, most: usize) -> usize
+    ensures { result ≤ most }
+{
+    for i in 0..most {
         if let Err(FillError::NotPresent) = rt.arg(i, &mut []) {
             return i;
         }
     }
-    usize::MAX
+    most
 }
 
 // The word at place i, at the front of a buffer, or as much of it as the buffer holds: no path is longer, and the front of a longer word
@@ -494,7 +496,7 @@ pub fn begin_from(
 {
     begin_as(
         rt,
-        ask_from(rt, first, word_count(rt)),
+        ask_from(rt, first, word_count(rt, usize::MAX)),
         program,
         help,
         version,
