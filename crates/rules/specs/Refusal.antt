@@ -3,6 +3,8 @@
 -- `refusal.overdrawn`.
 -- Assumes nothing.
 use Rattle.std.specs.Prelude.{ℕ}
+use Rattle.rules.specs.declared.refusal.Rule.{Rule}
+use Rattle.rules.specs.declared.refusal.Rule.TheVariants.{TooLong, CutShort, Misplaced, Comma, Malformed, Edges, GivenBefore, Overdrawn, Uncovered, TooMany, NoRoom, Astray, SeatTwice}
 
 abbrev pub accepted : ℕ
 accepted = 0
@@ -58,3 +60,19 @@ astray = 12
 -- Request [5]: "a seat code twice in one customer"
 abbrev pub seat_twice : ℕ
 seat_twice = 13
+
+-- the number of each rule, as code names it
+abbrev pub number_of : Rule → ℕ
+number_of TooLong = too_long
+number_of CutShort = cut_short
+number_of Misplaced = misplaced
+number_of Comma = comma
+number_of Malformed = malformed
+number_of Edges = edges
+number_of GivenBefore = given_before
+number_of Overdrawn = overdrawn
+number_of Uncovered = uncovered
+number_of TooMany = too_many
+number_of NoRoom = no_room
+number_of Astray = astray
+number_of SeatTwice = seat_twice

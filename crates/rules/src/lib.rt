@@ -22,6 +22,13 @@ pub struct Rate(pub u64);
 #[derive(Clone, Copy)]
 pub struct Stamp(pub u64);
 
+// Why a value is no figure, or no trade.
+#[derive(Clone, Copy, Debug, PartialEq, Eq)]
+pub enum Fault {
+    Comma,
+    Malformed,
+}
+
 // What a figure says, whoever asks: all its digits as one number, and how many of them stand behind a point; or why it is no figure.
 #[derive(Clone, Copy)]
 pub enum Written {
@@ -84,7 +91,7 @@ pub enum Opening {
 }
 
 // P, 1, 2, 3 and N: pending, in a tier, neither.
-#[derive(Clone, Copy)]
+#[derive(Clone, Copy, Debug, PartialEq, Eq)]
 pub enum Standing {
     Pending,
     Tier1,
@@ -104,5 +111,5 @@ pub const MOST_SEATS: usize = 4;
 pub fn lesser(a: u64, b: u64) -> u64
     ensures { result ≡ min a b }
 {
-    if a < b { a } else { b }
+    a.min(b)
 }

@@ -1,5 +1,38 @@
-// "Refusal numbers": a name for each number of the table, and for 0.
+// "Refusal numbers": the rules that a book can break, in the order of their numbers, and a name for the number of none.
+ghost use Rattle.std.specs.Prelude.{◌≡◌};
+ghost use Rattle.rules.specs.Refusal.{number_of};
+
+// What the number of an accepted book is.
 pub const ACCEPTED: u64 = 0;
+
+// A rule that is broken.
+#[derive(Clone, Copy, Debug, PartialEq, Eq)]
+pub enum Rule {
+    TooLong = 1,
+    CutShort,
+    Misplaced,
+    Comma,
+    Malformed,
+    // U is not greater than V.
+    Edges,
+    GivenBefore,
+    Overdrawn,
+    Uncovered,
+    TooMany,
+    NoRoom,
+    // A trade's price is too far from the settlement price.
+    Astray,
+    SeatTwice,
+}
+
+impl Rule {
+    // The number that the table of refusals gives it.
+    pub fn number(self) -> u64
+        ensures { result ≡ number_of self }
+    {
+        self as u64
+    }
+}
 
 pub const TOO_LONG: u64 = 1;
 
