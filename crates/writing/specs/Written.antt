@@ -73,3 +73,6 @@ join {at} {m} {r} {s} {t} {a} {b} {c} first second h =
       whole = second.whole ∙ rw (first.next, first.whole) (written_join at s t a h);
       next = simp length-append (omega arith);
     }
+
+-- what writes of several pieces are proved by
+pub ruleset pieces = (join, length-append)

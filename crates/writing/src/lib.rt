@@ -8,6 +8,7 @@ ghost use Rattle.writing.specs.Written.{Room, Wrote};
 
 use rules::Standing;
 
+#[tactic(auto, using(crate::specs::Written::written_one))]
 pub fn put_byte(out: &mut [u8], at: usize, b: u8) -> usize
     requires { Room at (b ∷ []) out.old }
     ensures { Wrote at (b ∷ []) out.old out.new result }
@@ -25,16 +26,14 @@ pub fn put_three(out: &mut [u8], at: usize, a: u8, b: u8, c: u8) -> usize
     put_byte(out, third, c)
 }
 
+#[tactic(auto, unfolding(crate::specs::Written::written))]
 pub fn put_bytes(out: &mut [u8], at: usize, s: &[u8]) -> usize
     requires { Room at s.now out.old }
     ensures { Wrote at s.now out.old out.new result }
 {
-    let mut i = 0;
-    while i < s.len() {
-        out[at + i] = s[i];
-        i += 1;
-    }
-    at + i
+    let end = at + s.len();
+    out[at..end].copy_from_slice(s);
+    end
 }
 
 pub fn digits_length(n: u64) -> usize
@@ -42,8 +41,8 @@ pub fn digits_length(n: u64) -> usize
 {
     let mut rest = n;
     let mut count = 1;
-    while 10 <= rest {
-        rest = rest / 10;
+    while rest >= 10 {
+        rest /= 10;
         count += 1;
     }
     count
@@ -55,15 +54,13 @@ pub fn fill_digits(out: &mut [u8], at: usize, count: usize, n: u64) -> usize
     requires room { Room at (digits n) out.old }
     ensures { Wrote at (digits n) out.old out.new result }
 {
+    let end = at + count;
     let mut rest = n;
-    let mut i = at + count - 1;
-    while 10 <= rest {
+    for i in (at..end).rev() {
         out[i] = b'0' + (rest % 10) as u8;
-        rest = rest / 10;
-        i -= 1;
+        rest /= 10;
     }
-    out[i] = b'0' + rest as u8;
-    at + count
+    end
 }
 
 pub fn put_digits(out: &mut [u8], at: usize, n: u64) -> usize
