@@ -15,7 +15,8 @@ fn put_tag(out: &mut [u8], at: usize, tag: u8, count: usize) -> usize
     requires room { Room at (tag_and_length tag count) out.old }
     ensures { Wrote at (tag_and_length tag count) out.old out.new result }
 {
-    put_three(out, at, tag, (count / 256) as u8, (count % 256) as u8)
+    let [high, low] = (count as u16).to_be_bytes();
+    put_three(out, at, tag, high, low)
 }
 
 fn put_field(out: &mut [u8], at: usize, tag: u8, s: &[u8]) -> usize
@@ -80,6 +81,7 @@ pub fn put_head(out: &mut [u8], total: u64, residue: u64) -> usize
     put_number_field(out, second, tag::R, residue)
 }
 
+// Three tags with their lengths, and the standing's one byte.
 pub fn reported_length(code_length: usize, offset: u64) -> usize
     requires { code_length < 65536 }
     ensures { result ≡ reported_length code_length offset }
@@ -87,6 +89,7 @@ pub fn reported_length(code_length: usize, offset: u64) -> usize
     10 + code_length + digits_length(offset)
 }
 
+// Two tags with their lengths.
 pub fn seat_length(code_length: usize, lots: u64) -> usize
     requires { code_length < 65536 }
     ensures { (result ≡ seat_length code_length lots) × (result ≤ 26 + code_length) }
@@ -94,6 +97,7 @@ pub fn seat_length(code_length: usize, lots: u64) -> usize
     6 + code_length + digits_length(lots)
 }
 
+// The same two of the head.
 pub fn head_length(total: u64, residue: u64) -> usize
     ensures { result ≡ length (report_head total residue) }
 {
