@@ -12,7 +12,6 @@ use rules::Standing;
 use writing::{letter_of, put_byte, put_bytes, put_digits, put_three};
 
 // A customer in the listing.
-#[tactic(auto, using(writing::specs::Written::pieces))]
 pub fn put_printed(out: &mut [u8], at: usize, code: &[u8], standing: Standing, offset: u64) -> usize
     requires { Room at (printed (shown code.now [] standing offset)) out.old }
     ensures { Wrote at (printed (shown code.now [] standing offset)) out.old out.new result }
@@ -33,7 +32,6 @@ pub fn put_worded(out: &mut [u8], at: usize, words: &[u8], n: u64) -> usize
 }
 
 // What stands before the customers in a listing.
-#[tactic(auto, using(writing::specs::Written::pieces))]
 pub fn put_printed_head(out: &mut [u8], total: u64, residue: u64) -> usize
     requires { Room 0 (listed_head total residue) out.old }
     ensures { Wrote 0 (listed_head total residue) out.old out.new result }
@@ -44,7 +42,6 @@ pub fn put_printed_head(out: &mut [u8], total: u64, residue: u64) -> usize
 }
 
 // The one line of a refusal.
-#[tactic(auto, using(writing::specs::Written::pieces))]
 pub fn put_refusal(out: &mut [u8], number: u64, place: u64) -> usize
     requires { Room 0 (listing_of (Refused number place)) out.old }
     ensures { Wrote 0 (listing_of (Refused number place)) out.old out.new result }

@@ -75,4 +75,4 @@ join {at} {m} {r} {s} {t} {a} {b} {c} first second h =
     }
 
 -- what writes of several pieces are proved by
-pub ruleset pieces = (join, length-append)
+pub ruleset pieces = (written_join, length-append)
