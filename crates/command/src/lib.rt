@@ -3,10 +3,10 @@
 
 ghost use Rattle.std.specs.Prelude.{◌≡◌};
 ghost use Rattle.rules.specs.Codes.{same};
-ghost use Rattle.command.specs.Asked.{begins_option, word_of, meant_of, operand_of, step_of, settled_of};
+ghost use Rattle.command.specs.Asked.{word_of, meant_of, operand_of, step_of, settled_of};
 
 // A word by itself.
-#[derive(Clone, Copy)]
+#[derive(Clone, Copy, Debug, PartialEq, Eq)]
 pub enum Word {
     Help,
     Version,
@@ -17,7 +17,7 @@ pub enum Word {
 }
 
 // What the words so far ask for; a number is the place of a word.
-#[derive(Clone, Copy)]
+#[derive(Clone, Copy, Debug, PartialEq, Eq)]
 pub enum Asked {
     Nothing,
     Input,
@@ -29,7 +29,7 @@ pub enum Asked {
 }
 
 // The words so far, and whether "--" was among them.
-#[derive(Clone, Copy)]
+#[derive(Clone, Copy, Debug, PartialEq, Eq)]
 pub struct Seen {
     pub asked: Asked,
     pub ended: bool,
@@ -39,47 +39,26 @@ pub struct Seen {
 pub fn is(word: &[u8], other: &[u8]) -> bool
     ensures { result ≡ same word.now other.now }
 {
-    if word.len() != other.len() {
-        return false;
-    }
-    let mut i = 0;
-    while i < word.len() {
-        if word[i] != other[i] {
-            return false;
-        }
-        i += 1;
-    }
-    true
+    word == other
 }
 
-fn begins_option(word: &[u8]) -> bool
-    ensures { result ≡ begins_option word.now }
-{
-    if word.len() == 0 {
-        return false;
-    }
-    word[0] == b'-'
-}
-
+#[tactic(auto, unfolding(crate::specs::Asked::word_of))]
 pub fn word_of(word: &[u8]) -> Word
     ensures { result ≡ word_of word.now }
 {
     if is(word, b"--help") {
-        return Word::Help;
+        Word::Help
+    } else if is(word, b"--version") {
+        Word::Version
+    } else if is(word, b"-") {
+        Word::Dash
+    } else if is(word, b"--") {
+        Word::Ends
+    } else if word.starts_with(b"-") {
+        Word::Option
+    } else {
+        Word::File
     }
-    if is(word, b"--version") {
-        return Word::Version;
-    }
-    if is(word, b"-") {
-        return Word::Dash;
-    }
-    if is(word, b"--") {
-        return Word::Ends;
-    }
-    if begins_option(word) {
-        return Word::Option;
-    }
-    Word::File
 }
 
 // A file, or standard input, where none was named before.
@@ -88,12 +67,8 @@ fn operand(before: Asked, now: Asked, i: usize) -> Asked
 {
     match before {
         Asked::Nothing => now,
-        Asked::Input => Asked::Second(i),
-        Asked::Named(_) => Asked::Second(i),
-        Asked::Usage => before,
-        Asked::Number => before,
-        Asked::Unknown(_) => before,
-        Asked::Second(_) => before,
+        Asked::Input | Asked::Named(_) => Asked::Second(i),
+        Asked::Usage | Asked::Number | Asked::Unknown(_) | Asked::Second(_) => before,
     }
 }
 
@@ -101,15 +76,8 @@ fn operand(before: Asked, now: Asked, i: usize) -> Asked
 fn meant(word: Word, ended: bool) -> Word
     ensures { result ≡ meant_of word ended }
 {
-    if ended {
-        match word {
-            Word::Dash => Word::Dash,
-            Word::Help => Word::File,
-            Word::Version => Word::File,
-            Word::Ends => Word::File,
-            Word::Option => Word::File,
-            Word::File => Word::File,
-        }
+    if ended && word != Word::Dash {
+        Word::File
     } else {
         word
     }
@@ -119,29 +87,30 @@ fn meant(word: Word, ended: bool) -> Word
 fn step(seen: Seen, word: Word, i: usize) -> Seen
     ensures { result ≡ step_of seen word i }
 {
-    let asked = seen.asked;
-    let ended = seen.ended;
     match word {
         Word::Help => Seen {
             asked: Asked::Usage,
-            ended,
+            ..seen
         },
         Word::Version => Seen {
             asked: Asked::Number,
-            ended,
+            ..seen
         },
         Word::Dash => Seen {
-            asked: operand(asked, Asked::Input, i),
-            ended,
+            asked: operand(seen.asked, Asked::Input, i),
+            ..seen
         },
-        Word::Ends => Seen { asked, ended: true },
+        Word::Ends => Seen {
+            ended: true,
+            ..seen
+        },
         Word::Option => Seen {
             asked: Asked::Unknown(i),
-            ended,
+            ..seen
         },
         Word::File => Seen {
-            asked: operand(asked, Asked::Named(i), i),
-            ended,
+            asked: operand(seen.asked, Asked::Named(i), i),
+            ..seen
         },
     }
 }
@@ -156,13 +125,8 @@ pub fn next(seen: Seen, word: Word, i: usize) -> Seen
 pub fn settled(asked: Asked) -> bool
     ensures { result ≡ settled_of asked }
 {
-    match asked {
-        Asked::Nothing => false,
-        Asked::Input => false,
-        Asked::Named(_) => false,
-        Asked::Usage => true,
-        Asked::Number => true,
-        Asked::Unknown(_) => true,
-        Asked::Second(_) => true,
-    }
+    matches!(
+        asked,
+        Asked::Usage | Asked::Number | Asked::Unknown(_) | Asked::Second(_)
+    )
 }
