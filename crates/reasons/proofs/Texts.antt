@@ -1,12 +1,9 @@
--- A text from i on, as a loop that counts by one reads it; and the part of a text that is its first line.
+-- A text from i on, as a loop that counts by one reads it; the part of a text that is its first line; and the first place that a search finds.
 -- Assumes nothing.
-use Prim.Native.Nat.{ℕ, ◌+◌, ◌-◌, ◌<◌, ◌≤◌}
-use mathlib.Core.Path.{◌≡◌, refl, ap, ◌∙◌}
-use mathlib.Core.List.{List, [], ◌∷◌}
-use native.Mathlib.Numerals.{add-one}
-use native.Mathlib.Omega.{arith}
-use lib.ListN.{length, get_or, take, drop, length-drop}
-use lib.Seq.{drop-cons}
+use Rattle.std.proofs.Common.{◌≡◌, ◌∙◌, ℕ, ◌+◌, ◌-◌, ◌<◌, ◌≤◌, Bool, not, ltb, List, [], ◌∷◌, length, get_or, take, drop, Option, refl, ap, add-one, arith, length-drop, drop-cons, ltb-false}
+use Rattle.std.specs.Option.{unwrap_or}
+use Rattle.std.specs.List.{position, position_or_len}
+use Rattle.std.proofs.lemmas.List.Sums.{prefix_len-le-length}
 use Rattle.rules.specs.Text.{is}
 use Rattle.laws.specs.ByTest.{by_test}
 use Rattle.reasons.specs.Lines.{first_line, behind_lines, line_of}
@@ -38,3 +35,11 @@ module _ (text : List ℕ) (k from end : ℕ) (b : drop from text ≡ behind_lin
   line_part =
       let n : end - from ≡ length (first_line (drop from text)) = omega arith in
       ap (λ (m : ℕ). take m (drop from text)) n ∙ first_part (drop from text) ∙ ap first_line b
+
+-- the place that a search found, or the end where it found none
+pub place_or_end : (test : ℕ → Bool) (s : List ℕ) (found : Option ℕ) (r : ℕ) → found ≡ position test s → r ≡ unwrap_or found (length s) → r ≡ position_or_len test s
+place_or_end test s found r e h =
+    let p = position_or_len test s in
+    by_test (ltb p (length s))
+    (λ t. h ∙ rw e (simp t))
+    (λ t. h ∙ rw e (simp t (omega (arith, ltb-false p (length s) t, prefix_len-le-length (λ x. not (test x)) s))))

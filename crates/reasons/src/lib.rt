@@ -4,7 +4,7 @@
 
 ghost use Rattle.std.specs.Prelude.{◌≡◌, ◌+◌, ◌-◌, ◌≤◌, ◌<◌, length, drop};
 ghost use Rattle.writing.specs.Written.{Room, Wrote};
-ghost use Rattle.reasons.specs.Lines.{left_behind, behind_lines, first_line, line_of};
+ghost use Rattle.reasons.specs.Lines.{behind_lines, first_line, line_of};
 ghost use Rattle.reasons.specs.Reason.{
   place_in,
   field_at,
@@ -24,12 +24,13 @@ ghost use Rattle.reasons.specs.Reason.{
 };
 
 use printing::put_worded;
-use rules::refusal;
+use rules::refusal::{self, Rule};
 use writing::{put_byte, put_bytes};
 
 // A buffer that the words of every refusal fit.
 pub const WORDS_ROOM: usize = 128;
 
+// Stays: a field is a number in the clauses of the public `field_at`, `put_reason` and `put_said`, and in the theorems on them.
 // The number of tags that a book has, and the place of a byte that is none of them; also where there is no book.
 pub const NO_TAG: usize = 14;
 
@@ -38,6 +39,13 @@ const BEHIND: usize = 15;
 
 // The line of a book that has ended where a field is due, behind those of its numbers.
 const ENDED: usize = 14;
+
+// The numbers of a book that name a field, and the last of its numbers.
+const CUT_SHORT: u64 = Rule::CutShort as u64;
+
+const MALFORMED: u64 = Rule::Malformed as u64;
+
+const BOOK_LAST: u64 = Rule::SeatTwice as u64;
 
 // The numbers of a sheet, of a list of days and of cutting back: the first of each, and the last.
 const SHEET: u64 = 20;
@@ -55,28 +63,20 @@ const CUTS_LAST: u64 = 44;
 // The line of what a number says away from place 0, behind those of all numbers.
 const ELSEWHERE: usize = 4;
 
-// How many lines are still to be passed, behind this byte.
-fn lines_left(left: usize, byte: u8) -> usize
-    requires { 0 < left }
-    ensures { result ≡ left_behind left byte }
-{
-    if byte == b'\n' { left - 1 } else { left }
-}
-
 // Where the text goes on behind k lines.
 pub fn behind_lines(text: &[u8], k: usize) -> usize
     ensures { (result ≤ length text.now) × (drop result text.now ≡ behind_lines k text.now) }
 {
     let mut left = k;
-    let mut i = 0;
-    while i < text.len() {
+    for (i, byte) in text.iter().enumerate() {
         if left == 0 {
             return i;
         }
-        left = lines_left(left, text[i]);
-        i += 1;
+        if *byte == b'\n' {
+            left -= 1;
+        }
     }
-    i
+    text.len()
 }
 
 // Where the line ends that begins at `from`.
@@ -84,14 +84,11 @@ pub fn line_end(text: &[u8], from: usize) -> usize
     requires { from ≤ length text.now }
     ensures { result ≡ from + length (first_line (drop from text.now)) }
 {
-    let mut i = from;
-    while i < text.len() {
-        if text[i] == b'\n' {
-            return i;
-        }
-        i += 1;
-    }
-    i
+    let rest = &text[from..];
+    from + rest
+        .iter()
+        .position(|byte| *byte == b'\n')
+        .unwrap_or(rest.len())
 }
 
 pub fn put_line(out: &mut [u8], at: usize, text: &[u8], k: usize) -> usize
@@ -107,38 +104,29 @@ pub fn put_line(out: &mut [u8], at: usize, text: &[u8], k: usize) -> usize
 fn place_in(byte: u8, all: &[u8]) -> usize
     ensures { result ≡ place_in byte all.now }
 {
-    let mut i = 0;
-    while i < all.len() {
-        if all[i] == byte {
-            return i;
-        }
-        i += 1;
-    }
-    i
+    all.iter()
+        .position(|other| *other == byte)
+        .unwrap_or(all.len())
 }
 
 // The field that begins at a place of the book, as a place among the tags.
 pub fn field_at(book: &[u8], place: u64) -> usize
     ensures { result ≡ field_at book.now place }
 {
-    if place < book.len() as u64 {
-        return place_in(book[place as usize], b"DXSLUVCIKHQBAZ");
+    match book.get(place as usize) {
+        Some(byte) => place_in(*byte, b"DXSLUVCIKHQBAZ"),
+        None => BEHIND,
     }
-    BEHIND
 }
 
 fn names_field(number: u64, field: usize) -> bool
     ensures { result ≡ named number field }
 {
-    if field < NO_TAG {
-        if refusal::CUT_SHORT <= number {
-            return number <= refusal::MALFORMED;
-        }
-    }
-    false
+    field < NO_TAG && matches!(number, CUT_SHORT..=MALFORMED)
 }
 
 // Words that name a field: what stands before the name, and the name.
+#[tactic(auto, unfolding(crate::specs::Reason::with_field))]
 fn put_named(out: &mut [u8], at: usize, number: usize, field: usize) -> usize
     requires { Room at (with_field number field) out.old }
     ensures { Wrote at (with_field number field) out.old out.new result }
@@ -146,13 +134,31 @@ fn put_named(out: &mut [u8], at: usize, number: usize, field: usize) -> usize
     let name = put_line(
         out,
         at,
-        b"\n\nthe book ends before the end of \na tag that does not belong here: \na comma in \nnot of its form or range: \n",
+        b"\n\
+          \n\
+          the book ends before the end of \n\
+          a tag that does not belong here: \n\
+          a comma in \n\
+          not of its form or range: \n",
         number,
     );
     put_line(
         out,
         name,
-        b"the limit D\nthe decimals X\nthe settlement price S\nthe loss edge L\nthe tier 1 edge U\nthe tier 2 edge V\nthe customer code C\nthe seat code I\nthe lots held long K\nthe lots held short H\nthe unfilled lots Q\nthe bought trade B\nthe sold trade A\nthe end Z\n",
+        b"the limit D\n\
+          the decimals X\n\
+          the settlement price S\n\
+          the loss edge L\n\
+          the tier 1 edge U\n\
+          the tier 2 edge V\n\
+          the customer code C\n\
+          the seat code I\n\
+          the lots held long K\n\
+          the lots held short H\n\
+          the unfilled lots Q\n\
+          the bought trade B\n\
+          the sold trade A\n\
+          the end Z\n",
         field,
     )
 }
@@ -161,15 +167,14 @@ fn put_named(out: &mut [u8], at: usize, number: usize, field: usize) -> usize
 fn book_line(number: u64, field: usize) -> usize
     ensures { result ≡ book_line number field }
 {
-    if field == BEHIND {
-        if number == refusal::CUT_SHORT {
-            return ENDED;
-        }
+    match (number, field) {
+        (CUT_SHORT, BEHIND) => ENDED,
+        _ => number as usize,
     }
-    number as usize
 }
 
 // The words for a number of a book.
+#[tactic(auto, unfolding(crate::specs::Reason::of_book))]
 fn put_of_book(out: &mut [u8], at: usize, number: u64, field: usize) -> usize
     requires { Room at (of_book number field) out.old }
     ensures { Wrote at (of_book number field) out.old out.new result }
@@ -180,7 +185,21 @@ fn put_of_book(out: &mut [u8], at: usize, number: u64, field: usize) -> usize
     put_line(
         out,
         at,
-        b"accepted\nmore than 60,000 bytes\nthe book ends before the end of a field\na byte that is no tag, or that follows Z\na comma in a figure\na value that is not of its form or range\nthe tier 1 edge U is not greater than the tier 2 edge V\nthis customer code was given before\nthe unfilled lots Q exceed the lots held on the locked side\nthis customer's opening trades on its net side sum to less than its net position\nmore than 256 customers\nthe report is longer than the buffer\nthis trade's price is above five times the settlement price S or below a fifth of it\nthis customer has a seat of this code already\nthe book ends where a field is due\n",
+        b"accepted\n\
+          more than 60,000 bytes\n\
+          the book ends before the end of a field\n\
+          a byte that is no tag, or that follows Z\n\
+          a comma in a figure\n\
+          a value that is not of its form or range\n\
+          the tier 1 edge U is not greater than the tier 2 edge V\n\
+          this customer code was given before\n\
+          the unfilled lots Q exceed the lots held on the locked side\n\
+          this customer's opening trades on its net side sum to less than its net position\n\
+          more than 256 customers\n\
+          the report is longer than the buffer\n\
+          this trade's price is above five times the settlement price S or below a fifth of it\n\
+          this customer has a seat of this code already\n\
+          the book ends where a field is due\n",
         book_line(number, field),
     )
 }
@@ -190,12 +209,11 @@ fn line_from(first: u64, split: u64, number: u64, place: u64) -> usize
     requires { first ≤ number }
     ensures { result ≡ line_from first split number place }
 {
-    if number == split {
-        if place != 0 {
-            return ELSEWHERE;
-        }
+    if number == split && place != 0 {
+        ELSEWHERE
+    } else {
+        (number - first) as usize
     }
-    (number - first) as usize
 }
 
 // The words for a number of a sheet.
@@ -208,7 +226,11 @@ fn put_of_sheet(out: &mut [u8], at: usize, number: u64, place: u64) -> usize
     put_line(
         out,
         at,
-        b"the mark is neither a comma nor a point\nthe other mark in a price, a rate or lots\na letter that begins no line, another number of parts, or no line feed\nno room for the result\nthe first line is neither mark, nor mark.\n",
+        b"the mark is neither a comma nor a point\n\
+          the other mark in a price, a rate or lots\n\
+          a letter that begins no line, another number of parts, or no line feed\n\
+          no room for the result\n\
+          the first line is neither mark, nor mark.\n",
         line,
     )
 }
@@ -223,7 +245,11 @@ fn put_of_days(out: &mut [u8], at: usize, number: u64, place: u64) -> usize
     put_line(
         out,
         at,
-        b"more than 2,001 line feeds\na zero price or zero open interest\na letter that is no mark\nthe first line is neither gold nor silver\na line that is not of a day's form\n",
+        b"more than 2,001 line feeds\n\
+          a zero price or zero open interest\n\
+          a letter that is no mark\n\
+          the first line is neither gold nor silver\n\
+          a line that is not of a day's form\n",
         line,
     )
 }
@@ -238,7 +264,11 @@ fn put_of_cuts(out: &mut [u8], at: usize, number: u64) -> usize
     put_line(
         out,
         at,
-        b"the customer's type or the metal is unknown\nthe grams in one lot are not a whole figure from 1 to 1,000,000\na seat code is malformed or given twice\nno seat, or more than four\nthe lots of a seat are not a whole figure from 0 to 1,000,000\n",
+        b"the customer's type or the metal is unknown\n\
+          the grams in one lot are not a whole figure from 1 to 1,000,000\n\
+          a seat code is malformed or given twice\n\
+          no seat, or more than four\n\
+          the lots of a seat are not a whole figure from 0 to 1,000,000\n",
         line as usize,
     )
 }
@@ -247,44 +277,34 @@ fn put_of_cuts(out: &mut [u8], at: usize, number: u64) -> usize
 fn has_words(number: u64) -> bool
     ensures { result ≡ has_words number }
 {
-    if number < SHEET {
-        return number <= refusal::SEAT_TWICE;
-    }
-    if number < DAYS {
-        return number <= SHEET_LAST;
-    }
-    if number < CUTS {
-        return number <= DAYS_LAST;
-    }
-    number <= CUTS_LAST
+    matches!(number, refusal::ACCEPTED..=BOOK_LAST | SHEET..=SHEET_LAST | DAYS..=DAYS_LAST | CUTS..=CUTS_LAST)
 }
 
 // The words for a number that has some.
+#[tactic(auto, unfolding(crate::specs::Reason::known))]
 fn put_known(out: &mut [u8], at: usize, number: u64, place: u64, field: usize) -> usize
     requires { Room at (known number place field) out.old }
     ensures { Wrote at (known number place field) out.old out.new result }
 {
-    if number < SHEET {
-        return put_of_book(out, at, number, field);
+    match number {
+        ..SHEET => put_of_book(out, at, number, field),
+        ..DAYS => put_of_sheet(out, at, number, place),
+        ..CUTS => put_of_days(out, at, number, place),
+        _ => put_of_cuts(out, at, number),
     }
-    if number < DAYS {
-        return put_of_sheet(out, at, number, place);
-    }
-    if number < CUTS {
-        return put_of_days(out, at, number, place);
-    }
-    put_of_cuts(out, at, number)
 }
 
 // The words for a number, a place and a field.
+#[tactic(auto, unfolding(crate::specs::Reason::reason))]
 pub fn put_reason(out: &mut [u8], at: usize, number: u64, place: u64, field: usize) -> usize
     requires { Room at (reason number place field) out.old }
     ensures { Wrote at (reason number place field) out.old out.new result }
 {
     if has_words(number) {
-        return put_known(out, at, number, place, field);
+        put_known(out, at, number, place, field)
+    } else {
+        put_bytes(out, at, b"no such number")
     }
-    put_bytes(out, at, b"no such number")
 }
 
 // The words of a refusal behind its number and place, to the end of the line.
