@@ -1,6 +1,6 @@
 -- The first line, and what the days behind it come to: the verdict on a list by its parts.
 -- Assumes nothing.
-use Rattle.std.specs.Prelude.{ℕ, ◌≤◌, Bool, true, false, cond, List, length, drop, ltb, Option, Some, None, option_map, MatchResult}
+use Rattle.std.specs.Prelude.{ℕ, ◌≤◌, Bool, true, false, cond, List, map, length, drop, ltb, Ok, Option, Some, None, option_map, MatchResult}
 use Rattle.std.proofs.Math.Path.{◌≡◌, refl, sym, ap}
 use Rattle.std.proofs.Common.{◌∙◌, add-one, arith}
 use Rattle.rules.specs.Text.{bytes}
@@ -11,12 +11,14 @@ use Rattle.days.specs.declared.Metal.{Metal}
 use Rattle.days.specs.declared.Metal.TheVariants.{Gold, Silver}
 use Rattle.days.specs.declared.Day.{Day}
 use Rattle.days.specs.declared.Head.{Head}
+use Rattle.days.specs.declared.DayList.{DayList}
 use Rattle.days.specs.Refusal.{number_of}
 use Rattle.days.specs.Lines.{lines_of}
 use Rattle.days.specs.Listed.{Days, All, Stop, Verdict, Refused, Accepted, of_metal, no_list, days_from, headed, list_of, verdict_of}
-use Rattle.days.specs.Places.{start_of, head_in, head_of, count_of}
+use Rattle.days.specs.Places.{start_of, head_in, head_of, days_left, count_of, IsTaken}
 use Rattle.days.specs.Parts.{drop_after}
 use Rattle.days.specs.Steps.{Shape, none, cut, whole, shape}
+use Rattle.days.specs.Passing.{all_left}
 
 abbrev pub head : Metal → ℕ → Head
 head metal start = record { metal = metal; start = start }
@@ -97,3 +99,9 @@ pub judged_taken : (metal : Metal) (r : Days) →
     MatchResult (count_of r) (λ n. (ds : List Day) × (of_metal metal r ≡ Accepted metal ds) × (n ≡ length ds)) (λ f. of_metal metal r ≡ Refused (number_of f.rule) f.place)
 judged_taken metal (All ds) = (ds, refl, refl)
 judged_taken metal (Stop rule place) = refl
+
+-- the days that an accepted list has
+pub taken_left : (long : Bool) (total : ℕ) (s : List ℕ) (list : DayList) → IsTaken long s (verdict_of long total s) list →
+    (ds : List Day) × (days_left list.days ≡ map Ok ds) × (length ds ≡ list.count) × (verdict_of long total s ≡ Accepted list.metal ds)
+taken_left long total s list (ds, v, count, same_long, same_list, start) =
+    (ds, rw (same_long, same_list, start) (all_left long s (start_of s) ds (accepted_days long total s list.metal ds v)), sym count, v)
