@@ -40,7 +40,7 @@ spans_length metal recent (d ∷ ds) = ap suc (spans_length metal (d ∷ recent)
 pub put_more : (put entry : List ℕ) (i b : ℕ) → length put ≡ i → i < length entry → set (put ++ drop i entry) i b ≡ (put ++ (b ∷ [])) ++ drop (i + 1) entry
 put_more put entry i b e h = rw (drop-cons entry i 0, set_at put (get_or entry i 0) (drop (suc i) entry) b i e, append_assoc, add-one)
 
-pub none_left : (l : List Day) → length l ≡ 0 → l ≡ []
+pub none_left : {A : Type 0} (l : List A) → length l ≡ 0 → l ≡ []
 none_left [] e = refl
 none_left (d ∷ l) e = absurd (omega arith)
 
