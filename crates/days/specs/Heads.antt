@@ -3,6 +3,7 @@
 use Rattle.std.specs.Prelude.{ℕ, ◌≤◌, Bool, true, false, cond, List, map, length, drop, ltb, Ok, Option, Some, None, option_map, MatchResult}
 use Rattle.std.proofs.Math.Path.{◌≡◌, refl, sym, ap}
 use Rattle.std.proofs.Common.{◌∙◌, add-one, arith}
+use denote.Bor.{Bor}
 use Rattle.rules.specs.Text.{bytes}
 use Rattle.rules.specs.Codes.{same}
 use Rattle.rules.specs.Figures.{up_to, after}
@@ -101,7 +102,7 @@ judged_taken metal (All ds) = (ds, refl, refl)
 judged_taken metal (Stop rule place) = refl
 
 -- the days that an accepted list has
-pub taken_left : (long : Bool) (total : ℕ) (s : List ℕ) (list : DayList) → IsTaken long s (verdict_of long total s) list →
-    (ds : List Day) × (days_left list.days ≡ map Ok ds) × (length ds ≡ list.count) × (verdict_of long total s ≡ Accepted list.metal ds)
-taken_left long total s list (ds, v, count, same_long, same_list, start) =
-    (ds, rw (same_long, same_list, start) (all_left long s (start_of s) ds (accepted_days long total s list.metal ds v)), sym count, v)
+pub taken_left : (long : Bool) (total : ℕ) (s : Bor (List ℕ)) (list : DayList) → IsTaken long s (verdict_of long total s.now) list →
+    (ds : List Day) × (days_left list.days ≡ map Ok ds) × (length ds ≡ list.count) × (verdict_of long total s.now ≡ Accepted list.metal ds)
+taken_left long total s list (ds, v, count, same) =
+    (ds, rw same (all_left long s.now (start_of s.now) ds (accepted_days long total s.now list.metal ds v)), sym count, v)

@@ -1,6 +1,7 @@
 -- What the code answers of a list by places in its bytes: the definitions of the list, with where the next line begins.
 -- Assumes nothing.
 use Rattle.std.specs.Prelude.{ℕ, ◌+◌, ◌≡◌, List, [], ◌∷◌, Bool, cond, length, drop, eqb, Option, Some, None, option_map, Result, Ok, Err}
+use denote.Bor.{Bor}
 use Rattle.rules.specs.Text.{bytes}
 use Rattle.rules.specs.Codes.{same}
 use Rattle.rules.specs.Figures.{up_to}
@@ -83,10 +84,9 @@ count_of (All ds) = Ok (length ds)
 count_of (Stop rule place) = Err (record { rule = rule; place = place })
 
 -- an accepted list: the days that are read from its second line on, and how many they are
-abbrev pub IsTaken : Bool → List ℕ → Verdict → DayList → Type 0
+abbrev pub IsTaken : Bool → Bor (List ℕ) → Verdict → DayList → Type 0
 IsTaken long s v list =
-    (ds : List Day) × (v ≡ Accepted list.metal ds) × (list.count ≡ length ds)
-    × (list.days.long ≡ long) × (list.days.list.now ≡ s) × (list.days.at ≡ start_of s)
+    (ds : List Day) × (v ≡ Accepted list.metal ds) × (list.count ≡ length ds) × (list.days ≡ record { list = s; at = start_of s.now; long = long })
 
 -- a refused one
 abbrev pub IsNotTaken : Verdict → Refusal → Type 0

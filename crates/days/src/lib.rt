@@ -168,7 +168,7 @@ fn count_days(s: &[u8], start: usize, long: bool) -> Result<usize, Refusal>
 
 // What a list comes to, where it has so many line feeds in all.
 pub fn judge(s: &[u8], total: usize, long: bool) -> Result<DayList, Refusal>
-    ensures { MatchResult result (IsTaken long s.now (verdict_of long total s.now)) (IsNotTaken (verdict_of long total s.now)) }
+    ensures { MatchResult result (IsTaken long s.entry (verdict_of long total s.now)) (IsNotTaken (verdict_of long total s.now)) }
 {
     if MOST_FEEDS < total {
         return Err(Refusal {

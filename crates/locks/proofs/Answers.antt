@@ -2,6 +2,7 @@
 -- Assumes nothing.
 use Rattle.std.specs.Prelude.{ℕ, ◌∷◌, [], ◌≤◌, ◌<◌, ◌≡◌, true, List, map, length, Option, Some, None, Result, MatchOption}
 use Rattle.std.proofs.Common.{sym, ap, ◌∙◌, arith}
+use denote.Bor.{Bor}
 use Rattle.rules.specs.Answer.{fitted}
 use Rattle.answers.specs.Answered.{Answered}
 use Rattle.answers.specs.Answering.{too_small, fits, refused_so}
@@ -40,20 +41,20 @@ module _ (items : List (Result Day ListRule)) (count : ℕ) (c : Countable items
   with_room {exit} h e = fits (rungs_in items) entry exit count (omega (arith, size)) e (omega (arith, size))
 
 -- judged to be refused, or taken
-module _ (total : ℕ) (s : List ℕ) where
-  pub countable : (list : DayList) → feeds s ≤ total → IsTaken true s (verdict_of true total s) list → Countable (days_left list.days) list.count
+module _ (total : ℕ) (s : Bor (List ℕ)) where
+  pub countable : (list : DayList) → feeds s.now ≤ total → IsTaken true s (verdict_of true total s.now) list → Countable (days_left list.days) list.count
   countable list all t =
       let (ds, read, size, v) = taken_left true total s list t in
-      record { days = ds; read = read; size = size; few = omega (arith, size, accepted_few true total s list.metal ds all v) }
+      record { days = ds; read = read; size = size; few = omega (arith, size, accepted_few true total s.now list.metal ds all v) }
 
-  pub taken : (list : DayList) (room : ℕ) → IsTaken true s (verdict_of true total s) list → ladder_in total s room ≡ fitted room (rungs_in (days_left list.days))
+  pub taken : (list : DayList) (room : ℕ) → IsTaken true s (verdict_of true total s.now) list → ladder_in total s.now room ≡ fitted room (rungs_in (days_left list.days))
   unfolding ladder_in
   taken list room t =
       let (ds, read, size, v) = taken_left true total s list t in
       ap (answer_of room) v ∙ ap (λ (l : List Day). fitted room (map rung_of (steps l))) (sym (ap days_of read ∙ days_good ds))
 
-  pub refused : (r : Refusal) (room : ℕ) (entry : List ℕ) → IsNotTaken (verdict_of true total s) r →
-      Answered (ladder_in total s room) (record { number = number_of r.rule; place = r.place; length = 0 }) entry entry
+  pub refused : (r : Refusal) (room : ℕ) (entry : List ℕ) → IsNotTaken (verdict_of true total s.now) r →
+      Answered (ladder_in total s.now room) (record { number = number_of r.rule; place = r.place; length = 0 }) entry entry
   unfolding ladder_in
   refused r room entry v = rw v (refused_so (number_of r.rule) r.place entry)
 

@@ -2,6 +2,7 @@
 -- Assumes nothing.
 use Rattle.std.specs.Prelude.{ℕ, ◌≤◌, ◌<◌, ◌≡◌, false, List, [], length, Result}
 use Rattle.std.proofs.Common.{sym, ap, ◌∙◌, arith}
+use denote.Bor.{Bor}
 use Rattle.rules.specs.Answer.{fitted}
 use Rattle.answers.specs.Answered.{Answered}
 use Rattle.answers.specs.Answering.{too_small, fits, refused_so}
@@ -34,18 +35,18 @@ module _ (metal : Metal) (items : List (Result Day ListRule)) (count : ℕ) (c :
   with_room {exit} h e = fits (spans_in metal items) entry exit count (omega (arith, size)) e (omega (arith, size))
 
 -- judged to be refused, or taken
-module _ (total : ℕ) (s : List ℕ) where
-  pub countable : (list : DayList) → IsTaken false s (verdict_of false total s) list → Countable (days_left list.days) list.count
+module _ (total : ℕ) (s : Bor (List ℕ)) where
+  pub countable : (list : DayList) → IsTaken false s (verdict_of false total s.now) list → Countable (days_left list.days) list.count
   countable list t = let (ds, read, size, v) = taken_left false total s list t in record { days = ds; read = read; size = size }
 
-  pub taken : (list : DayList) (room : ℕ) → IsTaken false s (verdict_of false total s) list → moves_in total s room ≡ fitted room (spans_in list.metal (days_left list.days))
+  pub taken : (list : DayList) (room : ℕ) → IsTaken false s (verdict_of false total s.now) list → moves_in total s.now room ≡ fitted room (spans_in list.metal (days_left list.days))
   unfolding moves_in
   taken list room t =
       let (ds, read, size, v) = taken_left false total s list t in
       ap (answer_of room) v ∙ ap (λ (l : List Day). fitted room (spans list.metal l)) (sym (ap days_of read ∙ days_good ds))
 
-  pub refused : (r : Refusal) (room : ℕ) (entry : List ℕ) → IsNotTaken (verdict_of false total s) r →
-      Answered (moves_in total s room) (record { number = number_of r.rule; place = r.place; length = 0 }) entry entry
+  pub refused : (r : Refusal) (room : ℕ) (entry : List ℕ) → IsNotTaken (verdict_of false total s.now) r →
+      Answered (moves_in total s.now room) (record { number = number_of r.rule; place = r.place; length = 0 }) entry entry
   unfolding moves_in
   refused r room entry v = rw v (refused_so (number_of r.rule) r.place entry)
 
