@@ -1,6 +1,7 @@
 pub mod Words
+pub mod Firsts
 pub mod Feeds
-pub mod Tens
-pub mod Parsing
+pub mod Interest
 pub mod Nexts
 pub mod Counts
+pub mod Judging

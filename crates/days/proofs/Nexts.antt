@@ -1,81 +1,106 @@
 -- What begins at a place, by where the next line feed stands; and the first line.
 -- Assumes nothing.
-use Prim.Native.Nat.{ℕ, ◌+◌, ◌-◌, ◌≤◌, ◌<◌}
-use mathlib.Core.Path.{◌≡◌, refl, sym, ap, ◌∙◌}
-use mathlib.Core.Bool.{Bool, true, false}
-use mathlib.Core.List.{List, [], ◌∷◌}
-use native.Mathlib.Omega.{arith}
-use lib.ListN.{length, take, drop, length-take, length-drop, drop_of_length-le}
-use lib.Seq.{take_all}
-use Rattle.rules.specs.Text.{bytes}
-use Rattle.rules.specs.Codes.{same}
+use Rattle.std.specs.Prelude.{ℕ, ◌+◌, ◌-◌, ◌≤◌, ◌<◌, ◌≡◌, refl, Bool, List, [], ◌∷◌, length, take, drop, Option, Some, None, option_map, Result, Ok, Err, position}
+use Rattle.std.proofs.Common.{sym, ap, ◌∙◌, arith, length-drop, drop_of_length-le}
+use Rattle.std.specs.Result.{MatchResult, IsOkAnd}
+use Rattle.std.proofs.lemmas.List.{take_all}
+use Rattle.rules.specs.Text.{is}
 use Rattle.rules.specs.Figures.{up_to, after}
-use Rattle.days.specs.declared.Metal.TheVariants.{Gold, Silver}
-use Rattle.days.specs.declared.Next.TheVariants.{End}
-use Rattle.days.specs.declared.Next.TheVariants.{Refused as NoDay}
-use Rattle.days.specs.declared.Head.TheVariants.{Of, Other}
-use Rattle.days.specs.Refusal as refusal
+use Rattle.days.specs.declared.Metal.{Metal}
+use Rattle.days.specs.declared.Day.{Day}
+use Rattle.days.specs.declared.NextDay.{NextDay}
+use Rattle.days.specs.declared.refusal.ListRule.{ListRule}
+use Rattle.days.specs.declared.refusal.ListRule.TheVariants.{NoDay}
 use Rattle.days.specs.Lines.{Whole, lines_of}
 use Rattle.days.specs.Day.{day_of}
-use Rattle.days.specs.Places.{up_to_byte, found_at, next_of, head_in, head_of}
-use Rattle.days.specs.Parts.{same_bytes, up_to_most, cut_front, cut_most}
-use Rattle.days.specs.Steps.{lines_cut, lines_whole}
+use Rattle.days.specs.Places.{metal_of, found_at, next_in, next_of, head_in, head_of, then_of, days_in, days_at}
+use Rattle.days.specs.Heads.{head}
+use Rattle.days.specs.Steps.{Shape, none, cut, whole, shape, lines_cut, lines_whole, after_at}
+use Rattle.days.proofs.Firsts.{first_some, first_none, front_some}
 
 pub to_end : (s : List ℕ) (at : ℕ) → take (length s - at) (drop at s) ≡ drop at s
 to_end s at = take_all (length s - at) (drop at s) (simp length-drop (omega arith))
 
--- the first line feed of some bytes stands at r
-module _ (t : List ℕ) (r : ℕ) (at : r ≡ length (up_to_byte 10 t)) where
-  feed_place : r ≡ length (up_to "\n" t)
-  feed_place = at ∙ ap length (same_bytes "\n" t)
+-- a line feed stands at r
+first_line : (t : List ℕ) (r : ℕ) → position (is "\n") t ≡ Some r → lines_of t ≡ Whole (take r t) ∷ lines_of (after "\n" t)
+first_line t r e =
+    let p = first_some "\n" t r e in
+    lines_whole t (omega arith) ∙ ap (λ (v : List ℕ). Whole v ∷ lines_of (after "\n" t)) (sym (front_some "\n" t r e))
 
-  no_feed : r ≡ length t → length (up_to "\n" t) ≡ length t
-  no_feed e = omega (arith, feed_place)
-
-  pub inside : (r ≡ length t → ⊥) → r < length t
-  inside h = omega (arith, feed_place, up_to_most "\n" t)
-
-  pub line_size : r ≡ length (take r t)
-  line_size = omega (arith, length-take r t, cut_most "\n" t r at)
-
-  pub first_line_lem : (r ≡ length t → ⊥) → lines_of t ≡ Whole (take r t) ∷ lines_of (after "\n" t)
-  first_line_lem h = lines_whole t (omega (arith, inside h, feed_place)) ∙ ap (λ (v : List ℕ). Whole v ∷ lines_of (after "\n" t)) (sym (cut_front "\n" t r at))
-
-module _ (long : Bool) (s : List ℕ) (at : ℕ) where
-  pub next_none : length s ≤ at → End ≡ next_of long s at
-  unfolding next_of lines_of
-  next_none h = sym (rw (drop_of_length-le s h))
-
-  module _ (t : List ℕ) (rest : t ≡ drop at s) (r : ℕ) (place : r ≡ length (up_to_byte 10 t)) where
-    pub next_cut : 0 < length t → r ≡ length t → NoDay refusal.no_day ≡ next_of long s at
-    unfolding next_of
-    next_cut h e = sym (rw (← rest, lines_cut t h (no_feed t r place e)))
-
-    pub next_whole : (r ≡ length t → ⊥) → found_at (at + r + 1) (day_of long (take r t)) ≡ next_of long s at
-    unfolding next_of
-    next_whole h =
-        sym (rw (← rest, first_line_lem t r place h) (ap (λ (n : ℕ). found_at (at + n + 1) (day_of long (take r t))) (sym (line_size t r place))))
-
--- the first line, where no line feed ends it
-unended : (t : List ℕ) → length (up_to "\n" t) ≡ length t → Other ≡ head_of t
-unfolding head_of lines_of
-unended [] h = refl
-unended (x ∷ t) h = sym (ap head_in (lines_cut (x ∷ t) (omega arith) h))
+line_size : (t : List ℕ) (r : ℕ) → position (is "\n") t ≡ Some r → length (take r t) ≡ r
+line_size t r e = ap length (front_some "\n" t r e) ∙ sym (first_some "\n" t r e).0
 
 -- the first line
-module _ (s : List ℕ) (r : ℕ) (place : r ≡ length (up_to_byte 10 s)) where
-  pub head_none : r ≡ length s → Other ≡ head_of s
-  head_none e = unended s (no_feed s r place e)
+module _ (s : List ℕ) where
+  unended : length (up_to "\n" s) ≡ length s → None ≡ head_of s
+  unfolding head_of lines_of
+  unended h = go (shape s)
+    where
+      go : Shape s → None ≡ head_in (lines_of s)
+      go (none e) = rw e
+      go (cut p e l) = rw l
+      go (whole p l) = absurd (omega arith)
 
-  head_whole : (r ≡ length s → ⊥) → head_of s ≡ head_in (Whole (take r s) ∷ lines_of (after "\n" s))
+  pub head_none : position (is "\n") s ≡ None → None ≡ head_of s
+  head_none e = unended (first_none "\n" s e)
+
+  pub head_by : (r : ℕ) → position (is "\n") s ≡ Some r → (m : Option Metal) → metal_of (take r s) ≡ m → option_map (λ metal. head metal (r + 1)) m ≡ head_of s
   unfolding head_of
-  head_whole h = ap head_in (first_line_lem s r place h)
+  head_by r e m h =
+      sym (ap head_in (first_line s r e) ∙ ap (λ (n : ℕ). option_map (λ metal. head metal (n + 1)) (metal_of (take r s))) (line_size s r e) ∙ ap (option_map (λ metal. head metal (r + 1))) h)
 
-  pub head_gold : (r ≡ length s → ⊥) → same (take r s) (bytes "gold") ≡ true → Of Gold (r + 1) ≡ head_of s
-  head_gold h e = sym (head_whole h ∙ simp (e, ← line_size s r place))
+module _ (long : Bool) (s : List ℕ) (at : ℕ) where
+  pub next_none : length s ≤ at → None ≡ next_of long s at
+  unfolding next_of lines_of
+  next_none h = sym (rw (drop_of_length-le s {i = at} h))
 
-  pub head_silver : (r ≡ length s → ⊥) → same (take r s) (bytes "gold") ≡ false → same (take r s) (bytes "silver") ≡ true → Of Silver (r + 1) ≡ head_of s
-  head_silver h e f = sym (head_whole h ∙ simp (e, f, ← line_size s r place))
+  module _ (t : List ℕ) (rest : t ≡ drop at s) where
+    pub next_cut : 0 < length t → position (is "\n") t ≡ None → Some (Err NoDay) ≡ next_of long s at
+    unfolding next_of
+    next_cut h e = sym (rw (← rest, lines_cut t h (first_none "\n" t e)))
 
-  pub head_other : (r ≡ length s → ⊥) → same (take r s) (bytes "gold") ≡ false → same (take r s) (bytes "silver") ≡ false → Other ≡ head_of s
-  head_other h e f = sym (head_whole h ∙ simp (e, f))
+    pub next_whole : (r : ℕ) → position (is "\n") t ≡ Some r → found_at (at + r + 1) (day_of long (take r t)) ≡ next_of long s at
+    unfolding next_of
+    next_whole r e = sym (rw (← rest, first_line t r e) (ap (λ (n : ℕ). found_at (at + n + 1) (day_of long (take r t))) (line_size t r e)))
+
+-- the days that are read from a place on, by what begins there
+abbrev days_by : Bool → List ℕ → Option (Result NextDay ListRule) → List (Result Day ListRule)
+days_by long s None = []
+days_by long s (Some (Ok f)) = Ok f.day ∷ days_at long s f.next
+days_by long s (Some (Err rule)) = Err rule ∷ []
+
+module _ (long : Bool) (s : List ℕ) where
+  then_by : (next : ℕ) (r : Result Day ListRule) → then_of r (days_at long s next) ≡ days_by long s (found_at next r)
+  then_by next (Ok d) = refl
+  then_by next (Err rule) = refl
+
+  days_begin : (at : ℕ) → days_at long s at ≡ days_by long s (next_of long s at)
+  unfolding days_at next_of lines_of
+  days_begin at = go (shape (drop at s))
+    where
+      go : Shape (drop at s) → days_in long (lines_of (drop at s)) ≡ days_by long s (next_in long at (lines_of (drop at s)))
+      go (none e) = rw e
+      go (cut h e l) = rw l
+      go (whole h l) =
+          let u = up_to "\n" (drop at s) in
+          rw (l, after_at s at) (then_by (at + length u + 1) (day_of long u))
+
+  days_none : (at : ℕ) → length s ≤ at → days_at long s at ≡ []
+  unfolding days_at lines_of
+  days_none at h = rw (drop_of_length-le s {i = at} h)
+
+  module _ (at : ℕ) where
+    pub left_none : next_of long s at ≡ None → days_at long s at ≡ []
+    left_none e = days_begin at ∙ ap (days_by long s) e
+
+    pub left_found : (f : NextDay) → next_of long s at ≡ Some (Ok f) → days_at long s at ≡ Ok f.day ∷ days_at long s f.next
+    left_found f e = days_begin at ∙ ap (days_by long s) e
+
+    pub left_refused : (rule : ListRule) → next_of long s at ≡ Some (Err rule) → days_at long s at ≡ Err rule ∷ days_at long s (length s)
+    left_refused rule e = days_begin at ∙ ap (days_by long s) e ∙ rw (days_none (length s) (omega arith))
+
+-- the day of a line, with the place of the next
+pub mapped : (n : ℕ) (r : Result Day ListRule) (q : Result NextDay ListRule) → MatchResult r (λ x. IsOkAnd q (λ y. y ≡ record { day = x; next = n })) (λ e. q ≡ Err e) → Some q ≡ found_at n r
+mapped n (Ok d) (Ok f) e = rw e
+mapped n (Ok d) (Err rule) e = absurd e
+mapped n (Err rule) q e = ap Some e

@@ -1,6 +1,6 @@
 -- An accepted list has at most 2,000 days: each is a line with its line feed, and so is the first line.
 -- Assumes nothing.
-use Rattle.std.specs.Prelude.{ℕ, suc, ◌≤◌, ◌≡◌, refl, Bool, true, false, cond, List, [], ◌∷◌, length, ltb}
+use Rattle.std.specs.Prelude.{ℕ, suc, ◌≤◌, ◌≡◌, refl, Bool, true, false, cond, List, [], ◌∷◌, length, ltb, Result, Ok, Err}
 use Rattle.std.proofs.Common.{ap, ◌∙◌, arith, ltb-false}
 use Rattle.rules.specs.Text.{is, bytes}
 use Rattle.rules.specs.Codes.{same}
@@ -8,8 +8,7 @@ use Rattle.laws.specs.ByTest.{by_test}
 use Rattle.days.specs.declared.Metal.{Metal}
 use Rattle.days.specs.declared.Metal.TheVariants.{Gold, Silver}
 use Rattle.days.specs.declared.Day.{Day}
-use Rattle.days.specs.declared.Reading.{Reading}
-use Rattle.days.specs.declared.Reading.TheVariants.{Good, Bad}
+use Rattle.days.specs.declared.refusal.ListRule.{ListRule}
 use Rattle.days.specs.Lines.{Line, Whole, Cut, longer, lines_of, feeds}
 use Rattle.days.specs.Day.{day_of}
 use Rattle.days.specs.Listed.{Days, All, Stop, Accepted, before, first_of, days_from, of_metal, no_list, list_of, verdict_of}
@@ -40,9 +39,9 @@ before_few : (d : Day) (r : Days) (ds : List Day) (n : ℕ) → before d r ≡ A
 before_few d (All es) ds n h few = let e : d ∷ es ≡ ds = cc in omega (arith, few es refl, ap length e)
 before_few d (Stop m place) ds n h few = differ (cc)
 
-first_few : (r : Reading) (k : ℕ) (rest : Days) (ds : List Day) (n : ℕ) → first_of r k rest ≡ All ds → ((es : List Day) → rest ≡ All es → length es ≤ n) → length ds ≤ suc n
-first_few (Bad m) k rest ds n e few = differ (cc)
-first_few (Good d) k rest ds n e few = before_few d rest ds n e few
+first_few : (r : Result Day ListRule) (k : ℕ) (rest : Days) (ds : List Day) (n : ℕ) → first_of r k rest ≡ All ds → ((es : List Day) → rest ≡ All es → length es ≤ n) → length ds ≤ suc n
+first_few (Err m) k rest ds n e few = differ (cc)
+first_few (Ok d) k rest ds n e few = before_few d rest ds n e few
 
 pub days_few : (long : Bool) (k : ℕ) (ls : List Line) (ds : List Day) → days_from long k ls ≡ All ds → length ds ≤ wholes ls
 unfolding days_from

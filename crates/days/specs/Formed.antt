@@ -1,10 +1,11 @@
 -- A line is 33, or of its form: then its numbers are those of its figures, none is larger than its digits write, and it has few bytes.
 -- Assumes nothing.
-use Rattle.std.specs.Prelude.{ℕ, suc, ◌+◌, ◌≤◌, ◌<◌, ◌^◌, ◌≡◌, refl, Bool, true, false, cond, not, ◌&&◌, ◌||◌, List, [], ◌∷◌, leb, eqb, length, get_or, drop}
+use Rattle.std.specs.Prelude.{ℕ, suc, ◌+◌, ◌≤◌, ◌<◌, ◌^◌, ◌≡◌, refl, Bool, true, false, cond, not, ◌&&◌, ◌||◌, List, [], ◌∷◌, leb, eqb, length, get_or, drop, Option, Some, None, Result, Ok, Err}
 use Rattle.std.proofs.Common.{sym, ap, ◌∙◌, arith, zero-add, leb-true, eqb-true, lit<}
 use Rattle.std.proofs.lemmas.Bool.{false≢true}
 use Rattle.std.proofs.Math.Bool.{and-eq-true_iff}
 use Rattle.std.proofs.Math.Nat.{pow-le-pow_right}
+use Rattle.rules.specs.declared.Rate.{Rate}
 use Rattle.rules.specs.declared.Form.{Form}
 use Rattle.rules.specs.declared.Figure.{Figure}
 use Rattle.rules.specs.declared.Figure.TheVariants.{Value, Comma, Malformed}
@@ -15,24 +16,21 @@ use Rattle.laws.specs.ByTest.{by_test}
 use Rattle.laws.specs.Figures.{figure_read}
 use Rattle.figures.proofs.Figures.{written_size}
 use Rattle.figures.proofs.Sizes.{below}
-use Rattle.days.specs.declared.Limit.{Limit}
-use Rattle.days.specs.declared.Limit.TheVariants.{Missing, Known}
 use Rattle.days.specs.declared.Day.{Day}
-use Rattle.days.specs.declared.Reading.{Reading}
-use Rattle.days.specs.declared.Reading.TheVariants.{Good, Bad}
-use Rattle.days.specs.declared.Next.TheVariants.{Found}
-use Rattle.days.specs.Refusal as refusal
+use Rattle.days.specs.declared.NextDay.{NextDay}
+use Rattle.days.specs.declared.refusal.ListRule.{ListRule}
+use Rattle.days.specs.declared.refusal.ListRule.TheVariants.{NoDay}
 use Rattle.days.specs.Lines.{Line, Whole, Cut, lines_of}
 use Rattle.days.specs.Day.{settlement_form, is_interest, interest_of, marks, is_mark, judged_day, limit_of, tail_of, long_of, short_of, behind_price, day_of}
-use Rattle.days.specs.Places.{found_at, next_in, next_of}
+use Rattle.days.specs.Places.{found_at, next_in, next_of, then_of, days_in, days_at}
 
 -- a line of its form has no more bytes, its line feed aside
 abbrev pub widest : Bool → ℕ
 widest long = cond long 30 19
 
 pub data Formed (long : Bool) (v : List ℕ) : Type 0 where
-  bad : day_of long v ≡ Bad refusal.no_day → Formed long v
-  formed : (p q x : ℕ) (limit : Limit) → day_of long v ≡ judged_day p q x limit → p ≤ 9_999_999 → q ≤ 9_999_999_999 → length v ≤ widest long → Formed long v
+  bad : day_of long v ≡ Err NoDay → Formed long v
+  formed : (p q x : ℕ) (limit : Option Rate) → day_of long v ≡ judged_day p q x limit → p ≤ 9_999_999 → q ≤ 9_999_999_999 → length v ≤ widest long → Formed long v
 
 -- up to a byte, and after it
 halves : (v : List ℕ) → length v ≤ length (up_to " " v) + 1 + length (after " " v)
@@ -69,23 +67,23 @@ same_size (x ∷ v) (y ∷ w) e = ap suc (same_size v w ((and-eq-true_iff (eqb x
 
 -- a limit, what follows open interest, what follows the price: 33, or of its form
 data Limited (p q x : ℕ) (v : List ℕ) : Type 0 where
-  no : limit_of p q x v ≡ Bad refusal.no_day → Limited p q x v
-  yes : (limit : Limit) → limit_of p q x v ≡ judged_day p q x limit → length v ≤ 8 → Limited p q x v
+  no : limit_of p q x v ≡ Err NoDay → Limited p q x v
+  yes : (limit : Option Rate) → limit_of p q x v ≡ judged_day p q x limit → length v ≤ 8 → Limited p q x v
 
 data Tailed (p q : ℕ) (v : List ℕ) : Type 0 where
-  no : tail_of p q v ≡ Bad refusal.no_day → Tailed p q v
-  yes : (x : ℕ) (limit : Limit) → tail_of p q v ≡ judged_day p q x limit → length v ≤ 10 → Tailed p q v
+  no : tail_of p q v ≡ Err NoDay → Tailed p q v
+  yes : (x : ℕ) (limit : Option Rate) → tail_of p q v ≡ judged_day p q x limit → length v ≤ 10 → Tailed p q v
 
 data Behind (long : Bool) (p : ℕ) (v : List ℕ) : Type 0 where
-  no : behind_price long p v ≡ Bad refusal.no_day → Behind long p v
-  yes : (q x : ℕ) (limit : Limit) → behind_price long p v ≡ judged_day p q x limit → q ≤ 9_999_999_999 → length v + 9 ≤ widest long → Behind long p v
+  no : behind_price long p v ≡ Err NoDay → Behind long p v
+  yes : (q x : ℕ) (limit : Option Rate) → behind_price long p v ≡ judged_day p q x limit → q ≤ 9_999_999_999 → length v + 9 ≤ widest long → Behind long p v
 
 limited : (p q x : ℕ) (v : List ℕ) → Limited p q x v
 unfolding limit_of
-limited p q x v = by_test (same v (bytes "-")) (λ b. yes Missing (simp b) (omega (arith, same_size v (bytes "-") b))) (λ b. go b (figure_of rate_form v) refl)
+limited p q x v = by_test (same v (bytes "-")) (λ b. yes None (simp b) (omega (arith, same_size v (bytes "-") b))) (λ b. go b (figure_of rate_form v) refl)
   where
     go : same v (bytes "-") ≡ false → (f : Figure) → figure_of rate_form v ≡ f → Limited p q x v
-    go b (Value n) e = yes (Known (rate n)) (simp (b, e)) (figure_size rate_form v n e).0
+    go b (Value n) e = yes (Some (rate n)) (simp (b, e)) (figure_size rate_form v n e).0
     go b Comma e = no (simp (b, e))
     go b Malformed e = no (simp (b, e))
 
@@ -114,7 +112,7 @@ behind true p v = go (interest_of (up_to " " v)) refl
 behind false p v = go (interest_of v) refl
   where
     go : (f : Figure) → interest_of v ≡ f → Behind false p v
-    go (Value q) e = let i = interest_size v q e in yes q 45 Missing (simp e) i.1 (omega arith)
+    go (Value q) e = let i = interest_size v q e in yes q 45 None (simp e) i.1 (omega arith)
     go Comma e = no (simp e)
     go Malformed e = no (simp e)
 
@@ -134,7 +132,7 @@ form long v = go (figure_of settlement_form (up_to " " v)) refl
     go Malformed e = bad (simp e)
 
 -- a day's numbers
-judged_good : (p q x : ℕ) (limit : Limit) (d : Day) → judged_day p q x limit ≡ Good d → (d.price.0 ≡ p) × (d.interest.0 ≡ q)
+judged_good : (p q x : ℕ) (limit : Option Rate) (d : Day) → judged_day p q x limit ≡ Ok d → (d.price.0 ≡ p) × (d.interest.0 ≡ q)
 unfolding judged_day
 judged_good p q x limit d = by_test (eqb p 0 || eqb q 0)
     (λ a e. absurd (let w = simp a at e in let z : ◌≡◌ {A = ℕ} 0 1 = cc in omega arith))
@@ -142,10 +140,10 @@ judged_good p q x limit d = by_test (eqb p 0 || eqb q 0)
     (λ b e. let w = good (simp (a, b) at e) in (ap (λ y. y.price.0) (sym w), ap (λ y. y.interest.0) (sym w)))
     (λ b e. absurd (let w = simp (a, b) at e in let z : ◌≡◌ {A = ℕ} 0 1 = cc in omega arith)))
   where
-    good : {y : Day} → Good y ≡ Good d → y ≡ d
+    good : {y : Day} → ◌≡◌ {A = Result Day ListRule} (Ok y) (Ok d) → y ≡ d
     good h = cc
 
-pub day_small : (long : Bool) (v : List ℕ) (d : Day) → day_of long v ≡ Good d → (d.price.0 ≤ 9_999_999) × (d.interest.0 ≤ 9_999_999_999)
+pub day_small : (long : Bool) (v : List ℕ) (d : Day) → day_of long v ≡ Ok d → (d.price.0 ≤ 9_999_999) × (d.interest.0 ≤ 9_999_999_999)
 day_small long v d e = go (form long v)
   where
     go : Formed long v → (d.price.0 ≤ 9_999_999) × (d.interest.0 ≤ 9_999_999_999)
@@ -153,15 +151,29 @@ day_small long v d e = go (form long v)
     go (formed p q x limit h s t few) = let j = judged_good p q x limit d (sym h ∙ e) in (omega arith, omega arith)
 
 -- and those of the day that begins at a place
-pub next_small : (long : Bool) (s : List ℕ) (at : ℕ) (d : Day) (next : ℕ) → next_of long s at ≡ Found d next → (d.price.0 ≤ 9_999_999) × (d.interest.0 ≤ 9_999_999_999)
+pub next_small : (long : Bool) (s : List ℕ) (at : ℕ) (f : NextDay) → next_of long s at ≡ Some (Ok f) → (f.day.price.0 ≤ 9_999_999) × (f.day.interest.0 ≤ 9_999_999_999)
 unfolding next_of
-next_small long s at d next = go (lines_of (drop at s))
+next_small long s at f = go (lines_of (drop at s))
   where
-    read : (v : List ℕ) (n : ℕ) (r : Reading) → day_of long v ≡ r → found_at n r ≡ Found d next → (d.price.0 ≤ 9_999_999) × (d.interest.0 ≤ 9_999_999_999)
-    read v n (Good e) h k = let same : e ≡ d = cc in day_small long v d (h ∙ ap Good same)
-    read v n (Bad m) h k = absurd (let z : ◌≡◌ {A = ℕ} 0 1 = cc in omega arith)
+    read : (v : List ℕ) (n : ℕ) (r : Result Day ListRule) → day_of long v ≡ r → found_at n r ≡ Some (Ok f) → (f.day.price.0 ≤ 9_999_999) × (f.day.interest.0 ≤ 9_999_999_999)
+    read v n (Ok e) h k = let q : record { day = e; next = n } ≡ f = cc in day_small long v f.day (h ∙ ap (λ (y : NextDay). Ok y.day) q)
+    read v n (Err m) h k = absurd (let z : ◌≡◌ {A = ℕ} 0 1 = cc in omega arith)
 
-    go : (ls : List Line) → next_in long at ls ≡ Found d next → (d.price.0 ≤ 9_999_999) × (d.interest.0 ≤ 9_999_999_999)
+    go : (ls : List Line) → next_in long at ls ≡ Some (Ok f) → (f.day.price.0 ≤ 9_999_999) × (f.day.interest.0 ≤ 9_999_999_999)
     go [] h = absurd (let z : ◌≡◌ {A = ℕ} 0 1 = cc in omega arith)
     go (Cut v ∷ ls) h = absurd (let z : ◌≡◌ {A = ℕ} 0 1 = cc in omega arith)
     go (Whole v ∷ ls) h = read v (at + length v + 1) (day_of long v) refl h
+
+-- and those of the day that is read first
+pub left_small : (long : Bool) (s : List ℕ) (at : ℕ) (d : Day) (rest : List (Result Day ListRule)) → days_at long s at ≡ Ok d ∷ rest → (d.price.0 ≤ 9_999_999) × (d.interest.0 ≤ 9_999_999_999)
+unfolding days_at
+left_small long s at d rest = go (lines_of (drop at s))
+  where
+    read : (v : List ℕ) (r : Result Day ListRule) (more : List (Result Day ListRule)) → day_of long v ≡ r → then_of r more ≡ Ok d ∷ rest → (d.price.0 ≤ 9_999_999) × (d.interest.0 ≤ 9_999_999_999)
+    read v (Ok e) more h k = let q : e ≡ d = cc in day_small long v d (h ∙ ap Ok q)
+    read v (Err m) more h k = absurd (let z : ◌≡◌ {A = ℕ} 0 1 = cc in omega arith)
+
+    go : (ls : List Line) → days_in long ls ≡ Ok d ∷ rest → (d.price.0 ≤ 9_999_999) × (d.interest.0 ≤ 9_999_999_999)
+    go [] h = absurd (let z : ◌≡◌ {A = ℕ} 0 1 = cc in omega arith)
+    go (Cut v ∷ ls) h = absurd (let z : ◌≡◌ {A = ℕ} 0 1 = cc in omega arith)
+    go (Whole v ∷ ls) h = read v (day_of long v) (days_in long ls) refl h

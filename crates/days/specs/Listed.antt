@@ -1,35 +1,36 @@
 -- docs/MOVES.md. Request [11]: "a list (first line gold or silver, then at most 2,000 days, one line each ..; a line feed ends each line)".
 -- Assumes nothing.
-use Rattle.std.specs.Prelude.{ℕ, suc, List, [], ◌∷◌, Bool, cond, ltb}
+use Rattle.std.specs.Prelude.{ℕ, suc, List, [], ◌∷◌, Bool, cond, ltb, Result, Ok, Err}
 use Rattle.rules.specs.Text.{bytes}
 use Rattle.rules.specs.Codes.{same}
 use Rattle.days.specs.declared.Metal.{Metal}
 use Rattle.days.specs.declared.Metal.TheVariants.{Gold, Silver}
 use Rattle.days.specs.declared.Day.{Day}
-use Rattle.days.specs.declared.Reading.{Reading}
-use Rattle.days.specs.declared.Reading.TheVariants.{Good, Bad}
+use Rattle.days.specs.declared.refusal.ListRule.{ListRule}
+use Rattle.days.specs.declared.refusal.ListRule.TheVariants.{NoDay}
 use Rattle.days.specs.Refusal as refusal
+use Rattle.days.specs.Refusal.{number_of}
 use Rattle.days.specs.Lines.{Line, Whole, Cut, lines_of, feeds}
 use Rattle.days.specs.Day.{day_of}
 
 -- the days of some lines, or the first refusal and its place
 pub data Days : Type 0 where
   All : List Day → Days
-  Stop : ℕ → ℕ → Days
+  Stop : ListRule → ℕ → Days
 
 abbrev pub before : Day → Days → Days
 before d (All ds) = All (d ∷ ds)
-before d (Stop n place) = Stop n place
+before d (Stop rule place) = Stop rule place
 
 -- "then the first bad line decides, with the day's number"
-abbrev pub first_of : Reading → ℕ → Days → Days
-first_of (Bad n) k rest = Stop n k
-first_of (Good d) k rest = before d rest
+abbrev pub first_of : Result Day ListRule → ℕ → Days → Days
+first_of (Err rule) k rest = Stop rule k
+first_of (Ok d) k rest = before d rest
 
 -- the lines from day k on
 unfoldable pub days_from : Bool → ℕ → List Line → Days
 days_from long k [] = All []
-days_from long k (Cut v ∷ ls) = Stop refusal.no_day k
+days_from long k (Cut v ∷ ls) = Stop NoDay k
 days_from long k (Whole v ∷ ls) = first_of (day_of long v) k (days_from long (suc k) ls)
 
 pub data Verdict : Type 0 where
@@ -38,7 +39,7 @@ pub data Verdict : Type 0 where
 
 abbrev pub of_metal : Metal → Days → Verdict
 of_metal metal (All ds) = Accepted metal ds
-of_metal metal (Stop n place) = Refused n place
+of_metal metal (Stop rule place) = Refused (number_of rule) place
 
 -- "(0 for the first line)"
 abbrev pub no_list : Verdict

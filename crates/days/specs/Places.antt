@@ -1,25 +1,21 @@
 -- What the code answers of a list by places in its bytes: the definitions of the list, with where the next line begins.
 -- Assumes nothing.
-use Rattle.std.specs.Prelude.{ℕ, ◌+◌, List, [], ◌∷◌, Bool, cond, length, drop, eqb}
+use Rattle.std.specs.Prelude.{ℕ, ◌+◌, ◌≡◌, List, [], ◌∷◌, Bool, cond, length, drop, eqb, Option, Some, None, option_map, Result, Ok, Err}
+use denote.Bor.{Bor}
 use Rattle.rules.specs.Text.{bytes}
 use Rattle.rules.specs.Codes.{same}
 use Rattle.rules.specs.Figures.{up_to}
 use Rattle.days.specs.declared.Metal.{Metal}
 use Rattle.days.specs.declared.Metal.TheVariants.{Gold, Silver}
-use Rattle.days.specs.declared.Reading.{Reading}
-use Rattle.days.specs.declared.Reading.TheVariants.{Good, Bad}
-use Rattle.days.specs.declared.Next.{Next}
-use Rattle.days.specs.declared.Next.TheVariants.{Found, End}
-use Rattle.days.specs.declared.Next.TheVariants.{Refused as NoDay}
+use Rattle.days.specs.declared.Day.{Day}
+use Rattle.days.specs.declared.NextDay.{NextDay}
 use Rattle.days.specs.declared.Head.{Head}
-use Rattle.days.specs.declared.Head.TheVariants.{Of, Other}
-use Rattle.days.specs.declared.Counted.{Counted}
-use Rattle.days.specs.declared.Counted.TheVariants.{Days as Number}
-use Rattle.days.specs.declared.Counted.TheVariants.{Refused as NoNumber}
-use Rattle.days.specs.declared.Judged.{Judged}
-use Rattle.days.specs.declared.Judged.TheVariants.{Accepted as Taken}
-use Rattle.days.specs.declared.Judged.TheVariants.{Refused as NotTaken}
-use Rattle.days.specs.Refusal as refusal
+use Rattle.days.specs.declared.Days.{Days as DaysAt}
+use Rattle.days.specs.declared.DayList.{DayList}
+use Rattle.days.specs.declared.refusal.Refusal.{Refusal}
+use Rattle.days.specs.declared.refusal.ListRule.{ListRule}
+use Rattle.days.specs.declared.refusal.ListRule.TheVariants.{NoDay}
+use Rattle.days.specs.Refusal.{number_of}
 use Rattle.days.specs.Lines.{Line, Whole, Cut, lines_of}
 use Rattle.days.specs.Day.{day_of}
 use Rattle.days.specs.Listed.{Days, All, Stop, Verdict, Refused, Accepted}
@@ -30,43 +26,68 @@ up_to_byte b [] = []
 up_to_byte b (x ∷ xs) = cond (eqb x b) [] (x ∷ up_to_byte b xs)
 
 -- a day, and where the next line begins
-abbrev pub found_at : ℕ → Reading → Next
-found_at next (Good d) = Found d next
-found_at next (Bad n) = NoDay n
+abbrev pub found_at : ℕ → Result Day ListRule → Option (Result NextDay ListRule)
+found_at next (Ok d) = Some (Ok (record { day = d; next = next }))
+found_at next (Err rule) = Some (Err rule)
 
-abbrev pub next_in : Bool → ℕ → List Line → Next
-next_in long at [] = End
-next_in long at (Cut v ∷ ls) = NoDay refusal.no_day
+abbrev pub next_in : Bool → ℕ → List Line → Option (Result NextDay ListRule)
+next_in long at [] = None
+next_in long at (Cut v ∷ ls) = Some (Err NoDay)
 next_in long at (Whole v ∷ ls) = found_at (at + length v + 1) (day_of long v)
 
 -- the line that begins at a place
-unfoldable pub next_of : Bool → List ℕ → ℕ → Next
+unfoldable pub next_of : Bool → List ℕ → ℕ → Option (Result NextDay ListRule)
 next_of long s at = next_in long at (lines_of (drop at s))
 
 -- where the second line begins
 abbrev pub start_of : List ℕ → ℕ
 start_of s = length (up_to "\n" s) + 1
 
-abbrev pub head_in : List Line → Head
-head_in [] = Other
-head_in (Cut v ∷ ls) = Other
-head_in (Whole v ∷ ls) =
-    cond (same v (bytes "gold")) (Of Gold (length v + 1)) (cond (same v (bytes "silver")) (Of Silver (length v + 1)) Other)
+abbrev pub metal_of : List ℕ → Option Metal
+metal_of v = cond (same v (bytes "gold")) (Some Gold) (cond (same v (bytes "silver")) (Some Silver) None)
+
+abbrev pub head_in : List Line → Option Head
+head_in [] = None
+head_in (Cut v ∷ ls) = None
+head_in (Whole v ∷ ls) = option_map (λ metal. record { metal = metal; start = length v + 1 }) (metal_of v)
 
 -- the first line
-unfoldable pub head_of : List ℕ → Head
+unfoldable pub head_of : List ℕ → Option Head
 head_of s = head_in (lines_of s)
 
+-- what is read of some lines, one after the other: their days, up to the first line that is none
+abbrev pub then_of : Result Day ListRule → List (Result Day ListRule) → List (Result Day ListRule)
+then_of (Ok d) rest = Ok d ∷ rest
+then_of (Err rule) rest = Err rule ∷ []
+
+abbrev pub days_in : Bool → List Line → List (Result Day ListRule)
+days_in long [] = []
+days_in long (Cut v ∷ ls) = Err NoDay ∷ []
+days_in long (Whole v ∷ ls) = then_of (day_of long v) (days_in long ls)
+
+-- what is read from a place on
+unfoldable pub days_at : Bool → List ℕ → ℕ → List (Result Day ListRule)
+days_at long s at = days_in long (lines_of (drop at s))
+
+abbrev pub days_left : DaysAt → List (Result Day ListRule)
+days_left d = days_at d.long d.list.now d.at
+
+-- the days of what is read
+abbrev pub days_of : List (Result Day ListRule) → List Day
+days_of [] = []
+days_of (Ok d ∷ rest) = d ∷ days_of rest
+days_of (Err rule ∷ rest) = []
+
 -- how many days there are
-abbrev pub count_of : Days → Counted
-count_of (All ds) = Number (length ds)
-count_of (Stop n place) = NoNumber n place
+abbrev pub count_of : Days → Result ℕ Refusal
+count_of (All ds) = Ok (length ds)
+count_of (Stop rule place) = Err (record { rule = rule; place = place })
 
--- the verdict, with the days by where they begin and how many they are
-abbrev pub judged_as : ℕ → Verdict → Judged
-judged_as start (Refused n place) = NotTaken n place
-judged_as start (Accepted metal ds) = Taken metal start (length ds)
+-- an accepted list: the days that are read from its second line on, and how many they are
+abbrev pub IsTaken : Bool → Bor (List ℕ) → Verdict → DayList → Type 0
+IsTaken long s v list =
+    (ds : List Day) × (v ≡ Accepted list.metal ds) × (list.count ≡ length ds) × (list.days ≡ record { list = s; at = start_of s.now; long = long })
 
-abbrev pub taken_as : Metal → ℕ → Counted → Judged
-taken_as metal start (Number count) = Taken metal start count
-taken_as metal start (NoNumber n place) = NotTaken n place
+-- a refused one
+abbrev pub IsNotTaken : Verdict → Refusal → Type 0
+IsNotTaken v refusal = v ≡ Refused (number_of refusal.rule) refusal.place

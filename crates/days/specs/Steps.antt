@@ -1,6 +1,6 @@
 -- The laws that join places and lines: what the lines from a place on are, and what the days from there on are by the day that begins there.
 -- Assumes nothing.
-use Rattle.std.specs.Prelude.{ℕ, suc, ◌+◌, ◌≤◌, ◌<◌, refl, Bool, List, [], ◌∷◌, ltb, drop}
+use Rattle.std.specs.Prelude.{ℕ, suc, ◌+◌, ◌≤◌, ◌<◌, refl, Bool, List, [], ◌∷◌, ltb, drop, Option, Some, None, Result, Ok, Err}
 use Rattle.std.proofs.Math.Path.{◌≡◌}
 use Rattle.std.proofs.Common.{sym, ap, ◌∙◌, ltb-true, ltb-false, drop-drop}
 use native.Mathlib.Omega.{arith}
@@ -9,11 +9,8 @@ use Rattle.rules.specs.Text.{is}
 use Rattle.rules.specs.Figures.{up_to, after}
 use Rattle.laws.specs.ByTest.{by_test}
 use Rattle.days.specs.declared.Day.{Day}
-use Rattle.days.specs.declared.Reading.{Reading}
-use Rattle.days.specs.declared.Reading.TheVariants.{Good, Bad}
-use Rattle.days.specs.declared.Next.{Next}
-use Rattle.days.specs.declared.Next.TheVariants.{Found, End}
-use Rattle.days.specs.declared.Next.TheVariants.{Refused as NoDay}
+use Rattle.days.specs.declared.NextDay.{NextDay}
+use Rattle.days.specs.declared.refusal.ListRule.{ListRule}
 use Rattle.days.specs.Lines.{Whole, Cut, lines_of}
 use Rattle.days.specs.Day.{day_of}
 use Rattle.days.specs.Listed.{Days, All, Stop, before, first_of, days_from}
@@ -63,15 +60,15 @@ after_at s at =
     sym (drop_after "\n" (drop at s)) ∙ drop-drop (suc u) at s ∙ ap (λ (n : ℕ). drop n s) e
 
 -- the days from a place on, where day k begins, by what begins there
-abbrev pub days_after : Bool → ℕ → List ℕ → Next → Days
-days_after long k s End = All []
-days_after long k s (NoDay n) = Stop n k
-days_after long k s (Found d next) = before d (days_from long (suc k) (lines_of (drop next s)))
+abbrev pub days_after : Bool → ℕ → List ℕ → Option (Result NextDay ListRule) → Days
+days_after long k s None = All []
+days_after long k s (Some (Err rule)) = Stop rule k
+days_after long k s (Some (Ok n)) = before n.day (days_from long (suc k) (lines_of (drop n.next s)))
 
-first_after : (long : Bool) (k : ℕ) (s : List ℕ) (next : ℕ) (r : Reading) →
+first_after : (long : Bool) (k : ℕ) (s : List ℕ) (next : ℕ) (r : Result Day ListRule) →
     first_of r k (days_from long (suc k) (lines_of (drop next s))) ≡ days_after long k s (found_at next r)
-first_after long k s next (Good d) = refl
-first_after long k s next (Bad n) = refl
+first_after long k s next (Ok d) = refl
+first_after long k s next (Err rule) = refl
 
 module _ (long : Bool) (s : List ℕ) (at : ℕ) where
   pub days_next : (k : ℕ) → days_from long k (lines_of (drop at s)) ≡ days_after long k s (next_of long s at)
@@ -85,18 +82,18 @@ module _ (long : Bool) (s : List ℕ) (at : ℕ) where
           let u = up_to "\n" (drop at s) in
           rw (l, after_at s at) (first_after long k s (at + length u + 1) (day_of long u))
 
-  found_at_lem : (t : List ℕ) (n : ℕ) (r : Reading) (d : Day) (next : ℕ) → found_at n r ≡ Found d next → n ≡ next
-  found_at_lem t n (Good e) d next h = cc
-  found_at_lem t n (Bad m) d next h = absurd (let z : ◌≡◌ {A = ℕ} 0 1 = cc in omega arith)
+  found_at_lem : (t : List ℕ) (n : ℕ) (r : Result Day ListRule) (f : NextDay) → found_at n r ≡ Some (Ok f) → n ≡ f.next
+  found_at_lem t n (Ok e) f h = let q : record { day = e; next = n } ≡ f = cc in ap (λ (y : NextDay). y.next) q
+  found_at_lem t n (Err m) f h = absurd (let z : ◌≡◌ {A = ℕ} 0 1 = cc in omega arith)
 
-  pub next_bounds : (d : Day) (next : ℕ) → next_of long s at ≡ Found d next → (at < next) × (next ≤ length s)
+  pub next_bounds : (f : NextDay) → next_of long s at ≡ Some (Ok f) → (at < f.next) × (f.next ≤ length s)
   unfolding next_of lines_of
-  next_bounds d next = go (shape (drop at s))
+  next_bounds f = go (shape (drop at s))
     where
-      go : Shape (drop at s) → next_in long at (lines_of (drop at s)) ≡ Found d next → (at < next) × (next ≤ length s)
+      go : Shape (drop at s) → next_in long at (lines_of (drop at s)) ≡ Some (Ok f) → (at < f.next) × (f.next ≤ length s)
       go (none e) h = absurd (let q = rw e at h in let z : ◌≡◌ {A = ℕ} 0 1 = cc in omega arith)
       go (cut p e l) h = absurd (let q = rw l at h in let z : ◌≡◌ {A = ℕ} 0 1 = cc in omega arith)
       go (whole p l) h =
           let u = up_to "\n" (drop at s) in
-          let q = found_at_lem s (at + length u + 1) (day_of long u) d next (rw l at h) in
+          let q = found_at_lem s (at + length u + 1) (day_of long u) f (rw l at h) in
           (omega arith, omega (arith, length-drop at s))

@@ -6,211 +6,190 @@ mod line;
 mod part;
 pub mod refusal;
 
-ghost use Rattle.std.specs.Prelude.{◌≡◌, cond, ◌≤◌, length, drop};
-ghost use Rattle.rules.specs.Text.{is};
+ghost use Rattle.std.specs.Prelude.{◌≡◌, ◌≤◌, length, drop, MatchResult};
+ghost use Rattle.std.specs.Iterator.{YieldsFirst, item_count};
 ghost use Rattle.days.specs.Lines.{lines_of, feeds};
 ghost use Rattle.days.specs.Listed.{days_from, verdict_of};
-ghost use Rattle.days.specs.Places.{head_of, next_of, start_of, count_of, taken_as, judged_as};
+ghost use Rattle.days.specs.Places.{metal_of, head_of, next_of, count_of, days_left, IsTaken, IsNotTaken};
 
 use line::read_day;
-use part::{first_at, is};
+use part::first_at;
+use refusal::{ListRule, Refusal};
 use rules::{Fen, Lots, Rate};
 
-#[derive(Clone, Copy)]
+#[derive(Clone, Copy, Debug, PartialEq, Eq)]
 pub enum Metal {
     Gold,
     Silver,
 }
 
 // How a day ended: not locked, locked up, locked down.
-#[derive(Clone, Copy)]
+#[derive(Clone, Copy, Debug, PartialEq, Eq)]
 pub enum Mark {
     Unlocked,
     Up,
     Down,
 }
 
-// A day's price limit.
-#[derive(Clone, Copy)]
-pub enum Limit {
-    Missing,
-    Known(Rate),
-}
-
-// A day: settlement price and open interest; in the short form it is not locked, and no limit is known.
+// A day: settlement price and open interest; in the short form it is not locked, and its price limit is not known.
 #[derive(Clone, Copy)]
 pub struct Day {
     pub price: Fen,
     pub interest: Lots,
     pub mark: Mark,
-    pub limit: Limit,
+    pub limit: Option<Rate>,
 }
 
-// What a line comes to: a day, or the number of its refusal.
+// A day, and where the next may begin.
 #[derive(Clone, Copy)]
-pub enum Reading {
-    Good(Day),
-    Bad(u64),
-}
-
-// What stands at a place where a day may begin: a day, and where the next may begin; the number of its refusal; or the end of the list.
-#[derive(Clone, Copy)]
-pub enum Next {
-    Found { day: Day, next: usize },
-    Refused(u64),
-    End,
+pub struct NextDay {
+    pub day: Day,
+    pub next: usize,
 }
 
 // The metal of a list, and where its first day begins.
 #[derive(Clone, Copy)]
-pub enum Head {
-    Of { metal: Metal, start: usize },
-    Other,
+pub struct Head {
+    pub metal: Metal,
+    pub start: usize,
 }
 
-// The days from a place on: how many there are, or the first refusal.
-#[derive(Clone, Copy)]
-pub enum Counted {
-    Days(usize),
-    Refused { number: u64, place: usize },
+// The days of a list from a place on. Behind a line that is no day none is read.
+#[derive(Drop)]
+pub struct Days<'a> {
+    list: &'a [u8],
+    at: usize,
+    long: bool,
 }
 
-// What a list comes to: its metal, where its first day begins and how many days it has; or its refusal.
-#[derive(Clone, Copy)]
-pub enum Judged {
-    Accepted {
-        metal: Metal,
-        start: usize,
-        count: usize,
-    },
-    Refused {
-        number: u64,
-        place: usize,
-    },
+// An accepted list: its metal, its days, and how many they are.
+#[derive(Drop)]
+pub struct DayList<'a> {
+    pub metal: Metal,
+    pub days: Days<'a>,
+    pub count: usize,
 }
 
 // "over 2,001 line feeds": the first line, and 2,000 days.
 const MOST_FEEDS: usize = 2_001;
 
-// 1 for a line feed.
-fn feed(byte: u8) -> usize
-    ensures { result ≡ cond (is "\n" byte) 1 0 }
-{
-    if byte == b'\n' { 1 } else { 0 }
-}
-
 // How many line feeds there are.
 pub fn count_feeds(s: &[u8]) -> usize
     ensures { (result ≡ feeds s.now) × (result ≤ length s.now) }
 {
-    let mut count: usize = 0;
-    let mut i: usize = 0;
-    while i < s.len() {
-        count += feed(s[i]);
-        i += 1;
+    s.iter().filter(|x| **x == b'\n').count()
+}
+
+// The metal that has a name.
+fn metal_of(name: &[u8]) -> Option<Metal>
+    ensures { result ≡ metal_of name.now }
+{
+    if name == b"gold".as_slice() {
+        Some(Metal::Gold)
+    } else if name == b"silver".as_slice() {
+        Some(Metal::Silver)
+    } else {
+        None
     }
-    count
 }
 
 // The first line: the metal.
-fn read_head(s: &[u8]) -> Head
+fn read_head(s: &[u8]) -> Option<Head>
     ensures { result ≡ head_of s.now }
 {
-    let end = first_at(s, b'\n');
-    if end == s.len() {
-        return Head::Other;
-    }
-    if is(&s[..end], b"gold") {
-        return Head::Of {
-            metal: Metal::Gold,
-            start: end + 1,
-        };
-    }
-    if is(&s[..end], b"silver") {
-        return Head::Of {
-            metal: Metal::Silver,
-            start: end + 1,
-        };
-    }
-    Head::Other
+    let end = first_at(s, b'\n')?;
+    let metal = metal_of(&s[..end])?;
+    Some(Head {
+        metal,
+        start: end + 1,
+    })
 }
 
-// The day that begins at a place.
-pub fn next_day(s: &[u8], at: usize, long: bool) -> Next
+// The day that begins at a place, or none where the list ends there.
+pub fn next_day(s: &[u8], at: usize, long: bool) -> Option<Result<NextDay, ListRule>>
     ensures { result ≡ next_of long s.now at }
 {
     if s.len() <= at {
-        return Next::End;
+        return None;
     }
     let rest = &s[at..];
-    let end = first_at(rest, b'\n');
-    if end == rest.len() {
-        return Next::Refused(refusal::NO_DAY);
-    }
-    match read_day(&rest[..end], long) {
-        Reading::Good(day) => Next::Found {
-            day,
-            next: at + end + 1,
-        },
-        Reading::Bad(number) => Next::Refused(number),
-    }
+    let Some(end) = first_at(rest, b'\n') else {
+        return Some(Err(ListRule::NoDay));
+    };
+    Some(read_day(&rest[..end], long).map(|day| NextDay {
+        day,
+        next: at + end + 1,
+    }))
 }
 
-// How many days there are from a place on, where the first of them begins.
-fn count_days(s: &[u8], start: usize, long: bool) -> Counted
-    requires { start ≤ length s.now }
-    ensures { result ≡ count_of (days_from long 1 (lines_of (drop start s.now))) }
-{
-    let mut at = start;
-    let mut count: usize = 0;
-    while at < s.len() {
-        match next_day(s, at, long) {
-            Next::Found { day: _, next } => {
-                at = next;
-                count += 1;
+impl<'a> Iterator for Days<'a> {
+    type Item = Result<Day, ListRule>;
+
+    ghost next_gives = { YieldsFirst days_left };
+
+    ghost remaining = { item_count days_left };
+
+    fn next(&mut self) -> Option<Result<Day, ListRule>> {
+        match next_day(self.list, self.at, self.long)? {
+            Ok(found) => {
+                self.at = found.next;
+                Some(Ok(found.day))
             }
-            Next::Refused(number) => {
-                return Counted::Refused {
-                    number,
-                    place: count + 1,
-                };
-            }
-            Next::End => {
-                return Counted::Days(count);
+            Err(rule) => {
+                self.at = self.list.len();
+                Some(Err(rule))
             }
         }
     }
-    Counted::Days(count)
 }
 
-fn taken(metal: Metal, start: usize, days: Counted) -> Judged
-    ensures { result ≡ taken_as metal start days }
+// How many days there are, where the first of them begins at a place.
+fn count_days(s: &[u8], start: usize, long: bool) -> Result<usize, Refusal>
+    requires { start ≤ length s.now }
+    ensures { result ≡ count_of (days_from long 1 (lines_of (drop start s.now))) }
 {
-    match days {
-        Counted::Days(count) => Judged::Accepted {
-            metal,
-            start,
-            count,
-        },
-        Counted::Refused { number, place } => Judged::Refused { number, place },
+    let days = Days {
+        list: s,
+        at: start,
+        long,
+    };
+    let mut count = 0;
+    for day in days {
+        if let Err(rule) = day {
+            return Err(Refusal {
+                rule,
+                place: count + 1,
+            });
+        }
+        count += 1;
     }
+    Ok(count)
 }
 
 // What a list comes to, where it has so many line feeds in all.
-pub fn judge(s: &[u8], total: usize, long: bool) -> Judged
-    ensures { result ≡ judged_as (start_of s.now) (verdict_of long total s.now) }
+pub fn judge(s: &[u8], total: usize, long: bool) -> Result<DayList, Refusal>
+    ensures { MatchResult result (IsTaken long s.entry (verdict_of long total s.now)) (IsNotTaken (verdict_of long total s.now)) }
 {
     if MOST_FEEDS < total {
-        return Judged::Refused {
-            number: refusal::TOO_MANY_DAYS,
+        return Err(Refusal {
+            rule: ListRule::TooManyDays,
             place: 0,
-        };
+        });
     }
-    match read_head(s) {
-        Head::Of { metal, start } => taken(metal, start, count_days(s, start, long)),
-        Head::Other => Judged::Refused {
-            number: refusal::NO_DAY,
+    let Some(head) = read_head(s) else {
+        return Err(Refusal {
+            rule: ListRule::NoDay,
             place: 0,
-        },
-    }
+        });
+    };
+    let days = Days {
+        list: s,
+        at: head.start,
+        long,
+    };
+    Ok(DayList {
+        metal: head.metal,
+        days,
+        count: count_days(s, head.start, long)?,
+    })
 }

@@ -1,12 +1,12 @@
-// One line: a day, or the number of its refusal.
-ghost use Rattle.std.specs.Prelude.{◌≡◌, cond, ◌&&◌, ◌≤◌, ◌+◌, leb, length, drop};
-ghost use Rattle.rules.specs.Figures.{all_digits_of, number_after};
-ghost use Rattle.rules.specs.declared.Figure.TheVariants.{Value, Malformed};
+// One line: a day, or the rule that it breaks.
+ghost use Rattle.std.specs.Prelude.{◌≡◌, cond, ◌||◌, Some, None, Ok};
+ghost use Rattle.rules.specs.Figures.{up_to, after, figure_of};
 ghost use Rattle.days.specs.Parts.{may_be_interest};
-ghost use Rattle.days.specs.Day.{interest_of, may_mark, marks, mark_of, is_mark, judged_day, limit_of, tail_of, long_of, short_of, behind_price, day_of};
+ghost use Rattle.days.specs.Day.{part, interest_of, may_mark, marks, mark_of, judged_day, limit_of, tail_of, long_of, short_of, behind_price, day_of};
 
-use crate::part::{first_at, is};
-use crate::{Day, Limit, Mark, Reading, refusal};
+use crate::part::first_at;
+use crate::refusal::ListRule;
+use crate::{Day, Mark};
 use figures::{RATE, read_figure};
 use rules::{Fen, Figure, Form, Lots, Rate};
 
@@ -20,193 +20,137 @@ const SETTLEMENT: Form = Form {
     most: 9_999_999,
 };
 
-// The number that digits write.
-fn read_number(v: &[u8]) -> Figure
-    requires { length v.now ≤ 10 }
-    ensures { result ≡ cond (all_digits_of v.now) (Value (number_after 0 v.now)) Malformed }
+// The number that a figure writes.
+fn number_in(v: &[u8], form: Form) -> Result<u64, ListRule>
+    ensures { result ≡ part (figure_of form v.now) Ok }
 {
-    let mut number: u64 = 0;
-    let mut i: usize = 0;
-    while i < v.len() {
-        let x = v[i];
-        if x < b'0' {
-            return Figure::Malformed;
-        }
-        if b'9' < x {
-            return Figure::Malformed;
-        }
-        number = number * 10 + (x - b'0') as u64;
-        i += 1;
+    match read_figure(v, form) {
+        Figure::Value(number) => Ok(number),
+        Figure::Comma | Figure::Malformed => Err(ListRule::NoDay),
     }
-    Figure::Value(number)
 }
 
 // As many bytes as open interest may have digits, without a leading zero.
 fn may_be_interest(v: &[u8]) -> bool
     ensures { result ≡ may_be_interest v.now }
 {
-    let size = v.len();
-    if size == 0 {
-        return false;
+    match v {
+        [] => false,
+        [_] => true,
+        [b'0', ..] => false,
+        _ => v.len() <= MOST_DIGITS,
     }
-    if MOST_DIGITS < size {
-        return false;
-    }
-    if v[0] == b'0' {
-        if 1 < size {
-            return false;
-        }
-    }
-    true
 }
 
-fn read_interest(v: &[u8]) -> Figure
-    ensures { result ≡ interest_of v.now }
+// The number that the digits of open interest write.
+// Stays: a reader of its own, since `figures::read_written` promises that more than seven digits are no figure, and figures lends no other.
+fn read_interest(v: &[u8]) -> Result<u64, ListRule>
+    ensures { result ≡ part (interest_of v.now) Ok }
 {
     if !may_be_interest(v) {
-        return Figure::Malformed;
+        return Err(ListRule::NoDay);
     }
-    read_number(v)
+    let mut number = 0;
+    for x in v {
+        if !x.is_ascii_digit() {
+            return Err(ListRule::NoDay);
+        }
+        number = number * 10 + u64::from(*x - b'0');
+    }
+    Ok(number)
 }
 
-// The bytes behind the byte at a place.
-fn behind(v: &[u8], at: usize) -> &[u8]
-    ensures { result.now ≡ drop (at + 1) v.now }
+// The bytes up to the first blank, and those behind it.
+fn cut(v: &[u8]) -> (&[u8], &[u8])
+    ensures front { result.0.now ≡ up_to " " v.now }
+    ensures behind { result.1.now ≡ after " " v.now }
 {
-    if at < v.len() {
-        let from = at + 1;
-        &v[from..]
-    } else {
-        let end = v.len();
-        &v[end..]
+    match first_at(v, b' ') {
+        Some(at) => (&v[..at], &v[at + 1..]),
+        None => (v, &[]),
     }
-}
-
-fn between(x: u8, low: u8, high: u8) -> bool
-    ensures { result ≡ (leb low x && leb x high) }
-{
-    if x < low {
-        return false;
-    }
-    x <= high
 }
 
 // A byte that may stand as a mark: one of them, or another letter.
 fn may_mark(x: u8) -> bool
     ensures { result ≡ may_mark x }
 {
-    if x == b'-' {
-        return true;
-    }
-    if between(x, b'A', b'Z') {
-        return true;
-    }
-    between(x, b'a', b'z')
+    x == b'-' || x.is_ascii_alphabetic()
 }
 
-fn marks(x: u8) -> bool
-    ensures { result ≡ marks x }
+fn mark_of(x: u8) -> Option<Mark>
+    ensures { result ≡ cond (marks x) (Some (mark_of x)) None }
 {
-    if x == b'-' {
-        return true;
+    match x {
+        b'-' => Some(Mark::Unlocked),
+        b'U' => Some(Mark::Up),
+        b'D' => Some(Mark::Down),
+        _ => None,
     }
-    if x == b'U' {
-        return true;
-    }
-    x == b'D'
-}
-
-fn mark_of(x: u8) -> Mark
-    ensures { result ≡ mark_of x }
-{
-    if x == b'U' {
-        return Mark::Up;
-    }
-    if x == b'D' {
-        return Mark::Down;
-    }
-    Mark::Unlocked
 }
 
 // A line that is of its form: 31, 32, or a day.
-fn judge_day(price: u64, interest: u64, x: u8, limit: Limit) -> Reading
+#[tactic(auto, unfolding(crate::specs::Day::judged_day))]
+fn judge_day(price: u64, interest: u64, x: u8, limit: Option<Rate>) -> Result<Day, ListRule>
     ensures { result ≡ judged_day price interest x limit }
 {
-    if price == 0 {
-        return Reading::Bad(refusal::ZERO);
+    if price == 0 || interest == 0 {
+        return Err(ListRule::Zero);
     }
-    if interest == 0 {
-        return Reading::Bad(refusal::ZERO);
-    }
-    if !marks(x) {
-        return Reading::Bad(refusal::OTHER_MARK);
-    }
-    Reading::Good(Day {
+    let mark = mark_of(x).ok_or(ListRule::OtherMark)?;
+    Ok(Day {
         price: Fen(price),
         interest: Lots(interest),
-        mark: mark_of(x),
+        mark,
         limit,
     })
 }
 
-fn is_mark(v: &[u8]) -> bool
-    ensures { result ≡ is_mark v.now }
-{
-    if v.len() != 1 {
-        return false;
-    }
-    may_mark(v[0])
-}
-
 // The price limit, behind all else.
-fn read_limit(v: &[u8], price: u64, interest: u64, x: u8) -> Reading
+#[tactic(auto, using(crate::proofs::Words::same_tested), unfolding(crate::specs::Day::limit_of))]
+fn read_limit(v: &[u8], price: u64, interest: u64, x: u8) -> Result<Day, ListRule>
     ensures { result ≡ limit_of price interest x v.now }
 {
-    if is(v, b"-") {
-        return judge_day(price, interest, x, Limit::Missing);
+    if v == b"-".as_slice() {
+        return judge_day(price, interest, x, None);
     }
-    match read_figure(v, RATE) {
-        Figure::Value(n) => judge_day(price, interest, x, Limit::Known(Rate(n))),
-        Figure::Comma => Reading::Bad(refusal::NO_DAY),
-        Figure::Malformed => Reading::Bad(refusal::NO_DAY),
-    }
+    let limit = number_in(v, RATE)?;
+    judge_day(price, interest, x, Some(Rate(limit)))
 }
 
 // A mark and a price limit.
-fn read_tail(v: &[u8], price: u64, interest: u64) -> Reading
+#[tactic(auto, unfolding(crate::specs::Day::tail_of))]
+fn read_tail(v: &[u8], price: u64, interest: u64) -> Result<Day, ListRule>
     ensures { result ≡ tail_of price interest v.now }
 {
-    let end = first_at(v, b' ');
-    if !is_mark(&v[..end]) {
-        return Reading::Bad(refusal::NO_DAY);
+    let (mark, limit) = cut(v);
+    let [x] = mark else {
+        return Err(ListRule::NoDay);
+    };
+    if !may_mark(*x) {
+        return Err(ListRule::NoDay);
     }
-    read_limit(behind(v, end), price, interest, v[0])
+    read_limit(limit, price, interest, *x)
 }
 
 // Open interest, a mark and a price limit.
-fn read_long(v: &[u8], price: u64) -> Reading
+#[tactic(auto, unfolding(crate::specs::Day::long_of))]
+fn read_long(v: &[u8], price: u64) -> Result<Day, ListRule>
     ensures { result ≡ long_of price v.now }
 {
-    let end = first_at(v, b' ');
-    match read_interest(&v[..end]) {
-        Figure::Value(interest) => read_tail(behind(v, end), price, interest),
-        Figure::Comma => Reading::Bad(refusal::NO_DAY),
-        Figure::Malformed => Reading::Bad(refusal::NO_DAY),
-    }
+    let (interest, tail) = cut(v);
+    read_tail(tail, price, read_interest(interest)?)
 }
 
 // Open interest alone.
-fn read_short(v: &[u8], price: u64) -> Reading
+#[tactic(auto, unfolding(crate::specs::Day::short_of))]
+fn read_short(v: &[u8], price: u64) -> Result<Day, ListRule>
     ensures { result ≡ short_of price v.now }
 {
-    match read_interest(v) {
-        Figure::Value(interest) => judge_day(price, interest, b'-', Limit::Missing),
-        Figure::Comma => Reading::Bad(refusal::NO_DAY),
-        Figure::Malformed => Reading::Bad(refusal::NO_DAY),
-    }
+    judge_day(price, read_interest(v)?, b'-', None)
 }
 
-fn read_behind(v: &[u8], price: u64, long: bool) -> Reading
+fn read_behind(v: &[u8], price: u64, long: bool) -> Result<Day, ListRule>
     ensures { result ≡ behind_price long price v.now }
 {
     if long {
@@ -217,13 +161,10 @@ fn read_behind(v: &[u8], price: u64, long: bool) -> Reading
 }
 
 // A line without its line feed, in the longer form or in the short one.
-pub fn read_day(v: &[u8], long: bool) -> Reading
+#[tactic(auto, unfolding(crate::specs::Day::day_of))]
+pub fn read_day(v: &[u8], long: bool) -> Result<Day, ListRule>
     ensures { result ≡ day_of long v.now }
 {
-    let end = first_at(v, b' ');
-    match read_figure(&v[..end], SETTLEMENT) {
-        Figure::Value(price) => read_behind(behind(v, end), price, long),
-        Figure::Comma => Reading::Bad(refusal::NO_DAY),
-        Figure::Malformed => Reading::Bad(refusal::NO_DAY),
-    }
+    let (price, rest) = cut(v);
+    read_behind(rest, number_in(price, SETTLEMENT)?, long)
 }

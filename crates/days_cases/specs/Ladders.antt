@@ -1,13 +1,11 @@
 -- Every step of Articles 17 and 18, both sides of each figure, the refusals of the longer form, and wrong readings that the cases refute.
 -- Assumes nothing.
-use Rattle.std.specs.Prelude.{ℕ, ◌+◌, ◌≡◌, refl, List, [], ◌∷◌, false, cond, ◌&&◌, leb, ltb}
+use Rattle.std.specs.Prelude.{ℕ, ◌+◌, ◌≡◌, refl, List, [], ◌∷◌, false, cond, ◌&&◌, leb, ltb, Option, Some, None}
 use Rattle.rules.specs.declared.Rate.{Rate}
 use Rattle.rules.specs.Figures.{written_of, figure_of}
 use Rattle.rules.specs.Report.{digits}
 use Rattle.days.specs.declared.Mark.{Mark}
 use Rattle.days.specs.declared.Mark.TheVariants.{Unlocked, Up, Down}
-use Rattle.days.specs.declared.Limit.{Limit}
-use Rattle.days.specs.declared.Limit.TheVariants.{Missing, Known}
 use Rattle.days.specs.declared.Day.{Day}
 use Rattle.days.specs.Lines.{lines_of}
 use Rattle.days.specs.Day.{interest_of, judged_day, limit_of, tail_of, long_of, day_of}
@@ -91,14 +89,14 @@ checked_too raise Reverse = First raise
 abbrev pub reverse_checked : List Day → List Step
 reverse_checked ds = steps_by (λ before days d rest. checked_too (raise_of d.limit rest) (step_on before days d rest)) Unlocked 0 ds
 
-abbrev pub above_three : Rate → Limit → Raise
-above_three from Missing = NoNextLimit
-above_three from (Known to) = cond (ltb (from.0 + 3_000) to.0 && leb to.0 (from.0 + 6_000)) Holds Fails
+abbrev pub above_three : Rate → Option Rate → Raise
+above_three from None = NoNextLimit
+above_three from (Some to) = cond (ltb (from.0 + 3_000) to.0 && leb to.0 (from.0 + 6_000)) Holds Fails
 
-abbrev pub more_than_three : Limit → List Day → Raise
+abbrev pub more_than_three : Option Rate → List Day → Raise
 more_than_three limit [] = NoDay
-more_than_three Missing (next ∷ ds) = NoLimit
-more_than_three (Known from) (next ∷ ds) = above_three from next.limit
+more_than_three None (next ∷ ds) = NoLimit
+more_than_three (Some from) (next ∷ ds) = above_three from next.limit
 
 abbrev pub three_not_allowed : List Day → List Step
 three_not_allowed ds = steps_by (λ before days d rest. step_by before d.mark days (more_than_three d.limit rest)) Unlocked 0 ds

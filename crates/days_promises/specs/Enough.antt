@@ -3,7 +3,7 @@
 -- are not the whole list, they end behind all good lines, or in a line that is 33 in the list too.
 -- Assumes nothing.
 use Prim.Native.Nat.{ℕ, zero, suc, ◌+◌, ◌-◌, ◌*◌, ◌≤◌, ◌<◌}
-use Rattle.std.specs.Prelude.{◌≡◌, refl, Bool, true, false, cond, ltb, eqb, take}
+use Rattle.std.specs.Prelude.{◌≡◌, refl, Bool, true, false, cond, ltb, eqb, take, Err}
 use Rattle.std.proofs.Math.Path.{sym, ap}
 use Rattle.std.proofs.Common.{◌∙◌, arith, ltb-true, ltb-false, lt-ltb}
 use Rattle.std.proofs.Math.Bool.{and-eq-true_iff}
@@ -16,7 +16,7 @@ use Rattle.rules.specs.Figures.{up_to, after}
 use Rattle.laws.specs.ByTest.{by_test}
 use Rattle.days.specs.declared.Metal.{Metal}
 use Rattle.days.specs.declared.Metal.TheVariants.{Gold, Silver}
-use Rattle.days.specs.declared.Reading.TheVariants.{Bad}
+use Rattle.days.specs.declared.refusal.ListRule.TheVariants.{NoDay}
 use Rattle.days.specs.Lines.{Whole, Cut, lines_of, feeds}
 use Rattle.days.specs.Day.{day_of}
 use Rattle.days.specs.Listed.{Days, Verdict, days_from, first_of, of_metal, no_list, list_of, verdict_of, judge}
@@ -61,10 +61,10 @@ feeds_whole [] h = absurd (omega arith)
 feeds_whole (x ∷ s) h = by_test (is "\n" x) (λ e. simp e) (λ e. simp e (feeds_whole s (omega (arith, simp e at h))))
 
 -- a line of so many bytes is 33
-long_bad : (long : Bool) (v : List ℕ) → widest long < length v → day_of long v ≡ Bad 33
+long_bad : (long : Bool) (v : List ℕ) → widest long < length v → day_of long v ≡ Err NoDay
 long_bad long v h = go (form long v)
   where
-    go : Formed long v → day_of long v ≡ Bad 33
+    go : Formed long v → day_of long v ≡ Err NoDay
     go (bad e) = e
     go (formed p q x limit e s t few) = absurd (omega arith)
 

@@ -1,12 +1,12 @@
 -- docs/MOVES.md. What a day's step depends on, and that the days running are right.
 -- Assumes nothing.
-use Rattle.std.specs.Prelude.{ℕ, zero, suc, ◌<◌, ◌≡◌, refl, Bool, true, false, cond, List, [], ◌∷◌, ◌++◌, length, get_or}
+use Rattle.std.specs.Prelude.{ℕ, zero, suc, ◌<◌, ◌≡◌, refl, Bool, true, false, cond, List, [], ◌∷◌, ◌++◌, length, get_or, Option}
 use Rattle.std.proofs.Common.{sym, ap, ◌∙◌, arith}
 use Rattle.std.proofs.lemmas.Bool.{false≢true}
 use Rattle.laws.specs.ByTest.{by_test}
+use Rattle.rules.specs.declared.Rate.{Rate}
 use Rattle.days.specs.declared.Mark.{Mark}
 use Rattle.days.specs.declared.Mark.TheVariants.{Unlocked, Up, Down}
-use Rattle.days.specs.declared.Limit.{Limit}
 use Rattle.days.specs.declared.Day.{Day}
 use Rattle.locks.specs.declared.Raise.{Raise}
 use Rattle.locks.specs.declared.Raise.TheVariants.{NoDay}
@@ -139,15 +139,15 @@ run_locked (Up ∷ ms) = ap suc (same_up ms)
 run_locked (Down ∷ ms) = ap suc (same_down ms)
 
 -- the limit of the day that follows, where one does
-abbrev pub next_limit : List Day → List Limit
+abbrev pub next_limit : List Day → List (Option Rate)
 next_limit [] = []
 next_limit (d ∷ ds) = d.limit ∷ []
 
-raise_by : Limit → List Limit → Raise
+raise_by : Option Rate → List (Option Rate) → Raise
 raise_by limit [] = NoDay
 raise_by limit (next ∷ ls) = checked limit next
 
-raise_by_lem : (limit : Limit) (ds : List Day) → raise_of limit ds ≡ raise_by limit (next_limit ds)
+raise_by_lem : (limit : Option Rate) (ds : List Day) → raise_of limit ds ≡ raise_by limit (next_limit ds)
 unfolding raise_by
 raise_by_lem limit [] = refl
 raise_by_lem limit (d ∷ ds) = refl

@@ -54,10 +54,8 @@ pub fn put_days(out: &mut [u8], rungs: &[u64]) -> usize
 {
     let count = put_worded(out, 0, b"days ", rungs.len() as u64);
     let mut at = put_byte(out, count, b'\n');
-    let mut i: usize = 0;
-    while i < rungs.len() {
-        at = put_day(out, at, i as u64 + 1, step_of(rungs[i]));
-        i += 1;
+    for (i, rung) in rungs.iter().enumerate() {
+        at = put_day(out, at, i as u64 + 1, step_of(*rung));
     }
     at
 }

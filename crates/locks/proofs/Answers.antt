@@ -1,57 +1,62 @@
--- What is answered of a list, by what it was judged to be.
+-- What is read ahead, and what is answered of a list by what it was judged to be.
 -- Assumes nothing.
-use Prim.Native.Nat.{ℕ, ◌≤◌}
-use mathlib.Core.Path.{◌≡◌, refl, sym, ap, ◌∙◌}
-use mathlib.Core.Bool.{true}
-use mathlib.Core.List.{List}
-use native.Mathlib.Omega.{arith}
-use lib.ListN.{length, drop}
+use Rattle.std.specs.Prelude.{ℕ, ◌∷◌, [], ◌≤◌, ◌<◌, ◌≡◌, true, List, map, length, Option, Some, None, Result, MatchOption}
+use Rattle.std.proofs.Common.{sym, ap, ◌∙◌, arith}
+use denote.Bor.{Bor}
 use Rattle.rules.specs.Answer.{fitted}
 use Rattle.answers.specs.Answered.{Answered}
+use Rattle.answers.specs.Answering.{too_small, fits, refused_so}
 use Rattle.days.specs.declared.Mark.TheVariants.{Unlocked}
-use Rattle.days.specs.declared.Metal.{Metal}
-use Rattle.days.specs.declared.Judged.TheVariants.{Accepted as Taken}
-use Rattle.days.specs.declared.Judged.TheVariants.{Refused as NotTaken}
-use Rattle.days.specs.Lines.{lines_of, feeds}
-use Rattle.days.specs.Listed.{Days, All, Verdict, Refused, Accepted, days_from, verdict_of, judge}
-use Rattle.days.specs.Places.{start_of, judged_as}
-use Rattle.days.specs.Heads.{accepted_days}
+use Rattle.days.specs.declared.Day.{Day}
+use Rattle.days.specs.declared.DayList.{DayList}
+use Rattle.days.specs.declared.refusal.Refusal.{Refusal}
+use Rattle.days.specs.declared.refusal.ListRule.{ListRule}
+use Rattle.days.specs.Refusal.{number_of}
+use Rattle.days.specs.Lines.{feeds}
+use Rattle.days.specs.Listed.{verdict_of, judge}
+use Rattle.days.specs.Places.{days_of, days_left, IsTaken, IsNotTaken}
+use Rattle.days.specs.Passing.{days_good}
+use Rattle.days.specs.Heads.{taken_left}
 use Rattle.days.specs.Few.{accepted_few}
-use Rattle.watch.proofs.Answers.{taken_view, from_there}
+use Rattle.writing.specs.Written.{written}
 use Rattle.locks.specs.Ladder.{steps}
-use Rattle.locks.specs.Listing.{answer_of, ladder_in, ladder}
-use Rattle.locks.specs.Climbing.{rungs_in, rungs_length, Countable}
+use Rattle.locks.specs.Listing.{rung_of, answer_of, ladder_in, ladder}
+use Rattle.locks.specs.Climbing.{rungs_in, rungs_length, with_ahead, Countable}
 
-pub rungs_size : (s : List ℕ) (start count : ℕ) → Countable s start count → length (rungs_in (days_from true 1 (lines_of (drop start s)))) ≡ count
-unfolding steps
-rungs_size s start count c = ap (λ (r : Days). length (rungs_in r)) c.read ∙ rungs_length Unlocked 0 c.days ∙ c.size
+-- a day was read ahead, or none is left
+pub read_ahead : (r : Option (Result Day ListRule)) {xs ys : List (Result Day ListRule)} → MatchOption r ((xs ≡ []) × (ys ≡ [])) (λ x. xs ≡ x ∷ ys) → (xs ≡ with_ahead r ys) × (r ≡ None → ys ≡ [])
+read_ahead None (e, h) = (e ∙ sym h, λ n. h)
+read_ahead (Some x) e = (e, λ n. cc)
 
-module _ (total : ℕ) (s : List ℕ) where
-  pub countable : (metal : Metal) (start count : ℕ) → feeds s ≤ total → judged_as (start_of s) (verdict_of true total s) ≡ Taken metal start count → Countable s start count
-  countable metal start count least h =
-      let (ds, v, at, size) = taken_view (start_of s) (verdict_of true total s) metal start count h in
-      record {
-        days = ds;
-        read = from_there true s start ds at (accepted_days true total s metal ds v);
-        size = size;
-        few = omega (arith, accepted_few true total s metal ds least v);
-      }
+module _ (items : List (Result Day ListRule)) (count : ℕ) (c : Countable items count) (entry : List ℕ) where
+  size : length (rungs_in items) ≡ count
+  unfolding steps
+  size = rungs_length Unlocked 0 (days_of items) ∙ ap (λ l. length (days_of l)) c.read ∙ ap length (days_good c.days) ∙ c.size
 
-  pub taken : (metal : Metal) (start count room : ℕ) → judged_as (start_of s) (verdict_of true total s) ≡ Taken metal start count →
-      ladder_in total s room ≡ fitted room (rungs_in (days_from true 1 (lines_of (drop start s))))
+  pub no_room : length entry < count → Answered (fitted (length entry) (rungs_in items)) (record { number = 11; place = count; length = 0 }) entry entry
+  no_room h = too_small (rungs_in items) entry count (sym size) h
+
+  pub with_room : {exit : List ℕ} → count ≤ length entry → exit ≡ written 0 (rungs_in items) entry →
+      Answered (fitted (length entry) (rungs_in items)) (record { number = 0; place = 0; length = count }) entry exit
+  with_room {exit} h e = fits (rungs_in items) entry exit count (omega (arith, size)) e (omega (arith, size))
+
+-- judged to be refused, or taken
+module _ (total : ℕ) (s : Bor (List ℕ)) where
+  pub countable : (list : DayList) → feeds s.now ≤ total → IsTaken true s (verdict_of true total s.now) list → Countable (days_left list.days) list.count
+  countable list all t =
+      let (ds, read, size, v) = taken_left true total s list t in
+      record { days = ds; read = read; size = size; few = omega (arith, size, accepted_few true total s.now list.metal ds all v) }
+
+  pub taken : (list : DayList) (room : ℕ) → IsTaken true s (verdict_of true total s.now) list → ladder_in total s.now room ≡ fitted room (rungs_in (days_left list.days))
   unfolding ladder_in
-  taken metal start count room h =
-      let (ds, v, at, size) = taken_view (start_of s) (verdict_of true total s) metal start count h in
-      let read : days_from true 1 (lines_of (drop start s)) ≡ All ds = from_there true s start ds at (accepted_days true total s metal ds v) in
-      ap (answer_of room) v ∙ ap (λ (r : Days). fitted room (rungs_in r)) (sym read)
+  taken list room t =
+      let (ds, read, size, v) = taken_left true total s list t in
+      ap (answer_of room) v ∙ ap (λ (l : List Day). fitted room (map rung_of (steps l))) (sym (ap days_of read ∙ days_good ds))
 
-  refused_view : (st : ℕ) (v : Verdict) (n place room : ℕ) (entry : List ℕ) → judged_as st v ≡ NotTaken n place → Answered (answer_of room v) (record { number = n; place = place; length = 0 }) entry entry
-  refused_view st (Refused m at) n place room entry h = record { number = cc; place = cc; length = refl; buffer = refl }
-  refused_view st (Accepted metal ds) n place room entry h = absurd (let z : ◌≡◌ {A = ℕ} 0 1 = cc in omega arith)
-
-  pub refused : (n place room : ℕ) (entry : List ℕ) → judged_as (start_of s) (verdict_of true total s) ≡ NotTaken n place → Answered (ladder_in total s room) (record { number = n; place = place; length = 0 }) entry entry
+  pub refused : (r : Refusal) (room : ℕ) (entry : List ℕ) → IsNotTaken (verdict_of true total s.now) r →
+      Answered (ladder_in total s.now room) (record { number = number_of r.rule; place = r.place; length = 0 }) entry entry
   unfolding ladder_in
-  refused n place room entry h = refused_view (start_of s) (verdict_of true total s) n place room entry h
+  refused r room entry v = rw v (refused_so (number_of r.rule) r.place entry)
 
 pub all_feeds : (s : List ℕ) (total room : ℕ) → total ≡ feeds s → ladder_in total s room ≡ ladder s room
 unfolding ladder_in ladder judge

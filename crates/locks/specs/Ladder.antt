@@ -1,10 +1,9 @@
 -- docs/MOVES.md. Articles 17 and 18 of document 000, in the words of request [12]: the step of each day.
 -- Assumes nothing.
-use Rattle.std.specs.Prelude.{ℕ, suc, ◌+◌, List, [], ◌∷◌, Bool, cond, ◌&&◌, leb}
+use Rattle.std.specs.Prelude.{ℕ, suc, ◌+◌, List, [], ◌∷◌, Bool, cond, ◌&&◌, leb, Option, Some, None}
+use Rattle.rules.specs.declared.Rate.{Rate}
 use Rattle.days.specs.declared.Mark.{Mark}
 use Rattle.days.specs.declared.Mark.TheVariants.{Unlocked, Up, Down}
-use Rattle.days.specs.declared.Limit.{Limit}
-use Rattle.days.specs.declared.Limit.TheVariants.{Missing, Known}
 use Rattle.days.specs.declared.Day.{Day}
 use Rattle.locks.specs.declared.Raise.{Raise}
 use Rattle.locks.specs.declared.Raise.TheVariants.{Holds, Fails, NoDay, NoLimit, NoNextLimit}
@@ -17,13 +16,13 @@ abbrev pub raised : ℕ → ℕ → Bool
 raised from to = leb (from + 3_000) to && leb to (from + 6_000)
 
 -- ".. or else the locked or the next day's limit is missing, the first of these is named"
-abbrev pub checked : Limit → Limit → Raise
-checked Missing next = NoLimit
-checked (Known from) Missing = NoNextLimit
-checked (Known from) (Known to) = cond (raised from.0 to.0) Holds Fails
+abbrev pub checked : Option Rate → Option Rate → Raise
+checked None next = NoLimit
+checked (Some from) None = NoNextLimit
+checked (Some from) (Some to) = cond (raised from.0 to.0) Holds Fails
 
 -- "If no day follows ..": the check of a locked day with this limit, by the days after it
-abbrev pub raise_of : Limit → List Day → Raise
+abbrev pub raise_of : Option Rate → List Day → Raise
 raise_of limit [] = NoDay
 raise_of limit (next ∷ ds) = checked limit next.limit
 

@@ -4,7 +4,9 @@ ghost use Rattle.locks.specs.Ladder.{raised, checked, step_by, running};
 ghost use Rattle.locks.specs.Climbing.{raise_at};
 
 use crate::{Raise, Step};
-use days::{Limit, Mark, Next};
+use days::refusal::ListRule;
+use days::{Day, Mark};
+use rules::Rate;
 
 // Three and six percentage points, in thousandths of a percent.
 const LEAST_RAISE: u64 = 3_000;
@@ -15,46 +17,36 @@ const MOST_RAISE: u64 = 6_000;
 fn raised(from: u64, to: u64) -> bool
     ensures { result ≡ raised from to }
 {
-    if to < from {
+    let Some(raise) = to.checked_sub(from) else {
         return false;
-    }
-    let raise = to - from;
-    if raise < LEAST_RAISE {
-        return false;
-    }
-    raise <= MOST_RAISE
+    };
+    LEAST_RAISE <= raise && raise <= MOST_RAISE
 }
 
 // The check of a first lock, by its limit and that of the next day.
-fn check(limit: Limit, next: Limit) -> Raise
+fn check(limit: Option<Rate>, next: Option<Rate>) -> Raise
     ensures { result ≡ checked limit next }
 {
-    match limit {
-        Limit::Missing => Raise::NoLimit,
-        Limit::Known(from) => match next {
-            Limit::Missing => Raise::NoNextLimit,
-            Limit::Known(to) => {
-                if raised(from.0, to.0) {
-                    Raise::Holds
-                } else {
-                    Raise::Fails
-                }
+    match (limit, next) {
+        (None, _) => Raise::NoLimit,
+        (Some(_), None) => Raise::NoNextLimit,
+        (Some(from), Some(to)) => {
+            if raised(from.0, to.0) {
+                Raise::Holds
+            } else {
+                Raise::Fails
             }
-        },
+        }
     }
 }
 
-// The check of a first lock, by its limit and what stands where the next day may begin.
-pub fn raise_at(limit: Limit, ahead: Next) -> Raise
+// The check of a first lock, by its limit and what is read of the next day.
+pub fn raise_at(limit: Option<Rate>, ahead: Option<Result<Day, ListRule>>) -> Raise
     ensures { result ≡ raise_at limit ahead }
 {
     match ahead {
-        Next::Found { day, next: _ } => {
-            let following = day.limit;
-            check(limit, following)
-        }
-        Next::Refused(_) => Raise::NoDay,
-        Next::End => Raise::NoDay,
+        Some(Ok(following)) => check(limit, following.limit),
+        Some(Err(_)) | None => Raise::NoDay,
     }
 }
 
@@ -63,18 +55,11 @@ pub fn step_by(before: Mark, mark: Mark, days: u64, raise: Raise) -> Step
     requires { days ≤ 2000 }
     ensures { result ≡ step_by before mark days raise }
 {
-    match mark {
-        Mark::Unlocked => Step::NotLocked,
-        Mark::Up => match before {
-            Mark::Unlocked => Step::First(raise),
-            Mark::Up => Step::Same(days + 1),
-            Mark::Down => Step::Reverse,
-        },
-        Mark::Down => match before {
-            Mark::Unlocked => Step::First(raise),
-            Mark::Up => Step::Reverse,
-            Mark::Down => Step::Same(days + 1),
-        },
+    match (before, mark) {
+        (_, Mark::Unlocked) => Step::NotLocked,
+        (Mark::Unlocked, _) => Step::First(raise),
+        (Mark::Up, Mark::Up) | (Mark::Down, Mark::Down) => Step::Same(days + 1),
+        (Mark::Up, Mark::Down) | (Mark::Down, Mark::Up) => Step::Reverse,
     }
 }
 
@@ -84,8 +69,7 @@ pub fn running(step: Step) -> u64
 {
     match step {
         Step::NotLocked => 0,
-        Step::First(_) => 1,
+        Step::First(_) | Step::Reverse => 1,
         Step::Same(days) => days,
-        Step::Reverse => 1,
     }
 }

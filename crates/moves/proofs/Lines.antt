@@ -1,6 +1,6 @@
 -- The lines of a listing.
 -- Assumes nothing.
-use Prim.Native.Nat.{ℕ, suc, ◌+◌, ◌/◌}
+use Prim.Native.Nat.{ℕ, suc, ◌+◌, ◌/◌, ◌≤◌}
 use mathlib.Core.Path.{◌≡◌, refl, sym, ap, ◌∙◌}
 use mathlib.Core.Bool.{Bool}
 use mathlib.Core.List.{List, [], ◌∷◌, ◌++◌}
@@ -12,6 +12,7 @@ use Rattle.rules.specs.Report.{digits}
 use Rattle.writing.specs.Written.{Wrote}
 use Rattle.intake.specs.Rolled.{lines_by}
 use Rattle.watch.specs.Moves.{is_set, word, kind, day_line, day_lines, listed}
+use Rattle.moves.specs.Sizes.{listing_room, listed_short}
 
 pub word_met : (name : List ℕ) (d : ℕ) {b c : Bool} → b ≡ c → word b name d ≡ word c name d
 word_met name d e = ap (λ (x : Bool). word x name d) e
@@ -44,3 +45,7 @@ listed_size bs = simp length-append (omega arith)
 pub listed_joined : (bs : List ℕ) {a b : List ℕ} {r : ℕ} → Wrote 0 (bytes "days " ++ digits (length bs) ++ bytes "\n" ++ day_lines 1 bs) a b r → Wrote 0 (listed bs) a b r
 unfolding listed
 listed_joined bs w = w
+
+-- all of it fits
+pub listing_fits : (bs out : List ℕ) → length bs ≤ 2_000 → listing_room ≤ length out → 6 + length (digits (length bs)) + length (lines_by day_line 1 bs) ≤ length out
+listing_fits bs out few room = omega (arith, ap length (lines_same 1 bs), listed_short bs few, listed_size bs)

@@ -59,10 +59,8 @@ pub fn put_days(out: &mut [u8], bytes: &[u8]) -> usize
 {
     let count = put_worded(out, 0, b"days ", bytes.len() as u64);
     let mut at = put_byte(out, count, b'\n');
-    let mut i: usize = 0;
-    while i < bytes.len() {
-        at = put_day(out, at, i as u64 + 1, bytes[i]);
-        i += 1;
+    for (i, byte) in bytes.iter().enumerate() {
+        at = put_day(out, at, i as u64 + 1, *byte);
     }
     at
 }

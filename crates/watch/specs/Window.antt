@@ -1,42 +1,52 @@
--- The last six days as the code keeps them, newest first: their prices and their open interest, each in an array, 0 where there is none.
+-- The last six days as the code keeps them, newest first: the price and the open interest of each, 0 where there is none.
 -- Assumes nothing.
 use Rattle.std.specs.Prelude.{ℕ, zero, suc, ◌+◌, ◌*◌, ◌≤◌, ◌<◌, ◌≡◌, refl, List, [], ◌∷◌, Bool, true, false, cond, ◌&&◌, leb, ltb, length, get_or, take}
 use Rattle.std.proofs.Common.{sym, ap, ◌∙◌, arith, lt-ltb, le-ltb, ltb-true, leb-true}
 use Rattle.std.proofs.Math.Bool.{and-eq-true_iff}
 use Rattle.std.proofs.Math.Dec.{leb-suc-suc}
 use Rattle.days.specs.declared.Metal.{Metal}
+use Rattle.rules.specs.Figures.{fen, lots}
 use Rattle.days.specs.declared.Day.{Day}
+use Rattle.watch.specs.declared.span.Close.{Close}
 use Rattle.watch.specs.declared.table.Row.{Row}
 use Rattle.watch.specs.Table.{row, table, first_row, row_at}
 use Rattle.watch.specs.Watch.{moved, grown, back, price_met, interest_met, spans_on}
 
-abbrev pub window : ℕ → (Day → ℕ) → List Day → List ℕ
-window zero g ds = []
-window (suc n) g [] = 0 ∷ window n g []
-window (suc n) g (d ∷ ds) = g d ∷ window n g ds
+abbrev pub close_of : Day → Close
+close_of d = record { price = d.price; interest = d.interest }
 
-abbrev pub price_of : Day → ℕ
-price_of d = d.price.0
+-- of a day that is not there
+abbrev pub no_close : Close
+no_close = record { price = fen 0; interest = lots 0 }
 
-abbrev pub interest_of : Day → ℕ
-interest_of d = d.interest.0
+abbrev pub window : ℕ → List Day → List Close
+window zero ds = []
+window (suc n) [] = no_close ∷ window n []
+window (suc n) (d ∷ ds) = close_of d ∷ window n ds
+
+-- the price and the open interest of a place
+abbrev pub price_at : List Close → ℕ → ℕ
+price_at w i = (get_or w i no_close).price.0
+
+abbrev pub interest_at : List Close → ℕ → ℕ
+interest_at w i = (get_or w i no_close).interest.0
 
 -- no price and no open interest is larger
 abbrev pub most : ℕ
 most = 9_999_999_999
 
-abbrev pub Small : List ℕ → Type 0
-Small w = (i : ℕ) → get_or w i 0 ≤ most
+abbrev pub Small : List Close → Type 0
+Small w = (i : ℕ) → (price_at w i ≤ most) × (interest_at w i ≤ most)
 
 -- the bits of one span, where so many days are there: 1 for the price and 8 for open interest
-unfoldable pub bits_in : Row → List ℕ → List ℕ → ℕ → ℕ
-bits_in row p q n =
+unfoldable pub bits_in : Row → List Close → ℕ → ℕ
+bits_in row w n =
     cond (ltb row.days n)
-    (cond (moved row.price (get_or p 0 0) (get_or p row.days 0)) 1 0 + 8 * cond (grown row.interest (get_or q 0 0) (get_or q row.days 0)) 1 0)
+    (cond (moved row.price (price_at w 0) (price_at w row.days)) 1 0 + 8 * cond (grown row.interest (interest_at w 0) (interest_at w row.days)) 1 0)
     0
 
-unfoldable pub byte_in : Metal → List ℕ → List ℕ → ℕ → ℕ
-byte_in metal p q n = bits_in (row_at metal 0) p q n + 2 * bits_in (row_at metal 1) p q n + 4 * bits_in (row_at metal 2) p q n
+unfoldable pub byte_in : Metal → List Close → ℕ → ℕ
+byte_in metal w n = bits_in (row_at metal 0) w n + 2 * bits_in (row_at metal 1) w n + 4 * bits_in (row_at metal 2) w n
 
 -- a row's figures are small
 pub record Few (row : Row) : Type 0 where
@@ -64,36 +74,36 @@ unfolding row_at small_rows
 row_few metal span = few_at table (first_row metal + span) refl
 
 -- a test of the day so many days behind reads its place
-pub back_window : (k n : ℕ) (g : Day → ℕ) (f : ℕ → Bool) (ds : List Day) → n < k →
-    back n ds (λ d. f (g d)) ≡ (ltb n (length ds) && f (get_or (window k g ds) n 0))
-back_window zero n g f ds h = absurd (omega arith)
-back_window (suc k) n g f [] h = simp (le-ltb n 0 (omega arith))
-back_window (suc k) zero g f (d ∷ ds) h = simp (lt-ltb 0 (suc (length ds)) (omega arith))
-back_window (suc k) (suc n) g f (d ∷ ds) h = back_window k n g f ds (omega arith) ∙ ap (λ (b : Bool). b && f (get_or (window k g ds) n 0)) (sym (leb-suc-suc (suc n) (length ds)))
+pub back_window : (k n : ℕ) (f : Close → Bool) (ds : List Day) → n < k →
+    back n ds (λ d. f (close_of d)) ≡ (ltb n (length ds) && f (get_or (window k ds) n no_close))
+back_window zero n f ds h = absurd (omega arith)
+back_window (suc k) n f [] h = simp (le-ltb n 0 (omega arith))
+back_window (suc k) zero f (d ∷ ds) h = simp (lt-ltb 0 (suc (length ds)) (omega arith))
+back_window (suc k) (suc n) f (d ∷ ds) h = back_window k n f ds (omega arith) ∙ ap (λ (b : Bool). b && f (get_or (window k ds) n no_close)) (sym (leb-suc-suc (suc n) (length ds)))
 
 -- one day more: all move by one place, and the last goes
-pub take_window : (m n : ℕ) (g : Day → ℕ) (ds : List Day) → m ≤ n → take m (window n g ds) ≡ window m g ds
-take_window zero n g ds h = refl
-take_window (suc m) zero g ds h = absurd (omega arith)
-take_window (suc m) (suc n) g [] h = ap (λ (l : List ℕ). 0 ∷ l) (take_window m n g [] (omega arith))
-take_window (suc m) (suc n) g (d ∷ ds) h = ap (λ (l : List ℕ). g d ∷ l) (take_window m n g ds (omega arith))
+pub take_window : (m n : ℕ) (ds : List Day) → m ≤ n → take m (window n ds) ≡ window m ds
+take_window zero n ds h = refl
+take_window (suc m) zero ds h = absurd (omega arith)
+take_window (suc m) (suc n) [] h = ap (λ (l : List Close). no_close ∷ l) (take_window m n [] (omega arith))
+take_window (suc m) (suc n) (d ∷ ds) h = ap (λ (l : List Close). close_of d ∷ l) (take_window m n ds (omega arith))
 
-small_take : (m : ℕ) (w : List ℕ) → Small w → Small (take m w)
-small_take zero w h i = omega arith
-small_take (suc m) [] h i = omega arith
+small_take : (m : ℕ) (w : List Close) → Small w → Small (take m w)
+small_take zero w h i = (omega arith, omega arith)
+small_take (suc m) [] h i = (omega arith, omega arith)
 small_take (suc m) (x ∷ w) h zero = h 0
 small_take (suc m) (x ∷ w) h (suc i) = small_take m w (λ j. h (suc j)) i
 
-pub small_shift : (x : ℕ) (w : List ℕ) → x ≤ most → Small w → Small (x ∷ take 5 w)
-small_shift x w h k zero = h
-small_shift x w h k (suc i) = small_take 5 w k i
+pub small_shift : (x : Close) (w : List Close) → x.price.0 ≤ most → x.interest.0 ≤ most → Small w → Small (x ∷ take 5 w)
+small_shift x w h k l zero = (h, k)
+small_shift x w h k l (suc i) = small_take 5 w l i
 
-pub small_none : (g : Day → ℕ) → Small (window 6 g [])
-small_none g i = go 6 i
+pub small_none : Small (window 6 [])
+small_none i = go 6 i
   where
-    go : (n i : ℕ) → get_or (window n g []) i 0 ≤ most
-    go zero i = omega arith
-    go (suc n) zero = omega arith
+    go : (n i : ℕ) → (price_at (window n []) i ≤ most) × (interest_at (window n []) i ≤ most)
+    go zero i = (omega arith, omega arith)
+    go (suc n) zero = (omega arith, omega arith)
     go (suc n) (suc i) = go n i
 
 -- the bits of a span are those of the definition
@@ -103,16 +113,16 @@ both_bits false x y = refl
 
 module _ (d : Day) (ds : List Day) where
   bits_window : (row : Row) → row.days < 6 →
-      bits_in row (window 6 price_of (d ∷ ds)) (window 6 interest_of (d ∷ ds)) (length (d ∷ ds)) ≡ cond (price_met (d ∷ ds) row) 1 0 + 8 * cond (interest_met (d ∷ ds) row) 1 0
+      bits_in row (window 6 (d ∷ ds)) (length (d ∷ ds)) ≡ cond (price_met (d ∷ ds) row) 1 0 + 8 * cond (interest_met (d ∷ ds) row) 1 0
   unfolding bits_in
   bits_window row h =
       rw (
-        back_window 6 row.days price_of (λ base. moved row.price d.price.0 base) (d ∷ ds) h,
-        back_window 6 row.days interest_of (λ base. grown row.interest d.interest.0 base) (d ∷ ds) h,
+        back_window 6 row.days (λ base. moved row.price d.price.0 base.price.0) (d ∷ ds) h,
+        back_window 6 row.days (λ base. grown row.interest d.interest.0 base.interest.0) (d ∷ ds) h,
       )
       (both_bits (ltb row.days (suc (length ds))) _ _)
 
-  pub byte_window : (metal : Metal) → byte_in metal (window 6 price_of (d ∷ ds)) (window 6 interest_of (d ∷ ds)) (length (d ∷ ds)) ≡ spans_on metal (d ∷ ds)
+  pub byte_window : (metal : Metal) → byte_in metal (window 6 (d ∷ ds)) (length (d ∷ ds)) ≡ spans_on metal (d ∷ ds)
   unfolding byte_in spans_on
   byte_window metal =
       omega (arith, bits_window (row_at metal 0) (row_few metal 0).days, bits_window (row_at metal 1) (row_few metal 1).days, bits_window (row_at metal 2) (row_few metal 2).days)

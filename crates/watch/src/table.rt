@@ -57,6 +57,7 @@ fn first_row(metal: Metal) -> usize
 }
 
 // A metal's row for its shortest span, the next or the longest.
+#[tactic(auto, unfolding(crate::specs::Table::row_at))]
 pub fn row_of(metal: Metal, span: usize) -> Row
     requires { span < 3 }
     ensures { result ≡ row_at metal span }
