@@ -65,11 +65,7 @@ fn answer(rt: &HostRuntime, book: &[u8]) -> Ended
 pub fn frundavel_main(rt: &HostRuntime) -> i32
     ensures { Exit result }
 {
-    let mut buffer = [0u8; MOST_READ];
-    let ended = match PROGRAM.begin(rt, &mut buffer) {
-        Ok(n) => answer(rt, &buffer[..n]),
-        Err(ended) => ended,
-    };
+    let ended = PROGRAM.run_from::<MOST_READ, _>(rt, 1, |book| answer(rt, book));
     ended.0 as i32
 }
 

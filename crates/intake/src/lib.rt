@@ -2,13 +2,17 @@
 // depends on nothing else (days_promises, Enough). Of a read std says how many bytes moved at most.
 #![tactic(auto)]
 
-ghost use Rattle.std.specs.Prelude.{◌≡◌, ◌≤◌, length, take};
+ghost use Rattle.std.specs.Prelude.{◌≡◌, ◌≤◌, ◌<◌, ◌^◌, length, take};
+ghost use Rattle.rules.specs.Book.{Refused};
+ghost use Rattle.rules.specs.Report.{listing_of};
 ghost use Rattle.days.specs.Lines.{feeds};
-ghost use Rattle.shell.specs.Shell.{Untouched};
+ghost use Rattle.reasons.specs.Reason.{no_tag, said};
+ghost use Rattle.shell.specs.Shell.{failed, Untouched};
 ghost use Rattle.intake.specs.Long.{LongCame, Counts, Fronts, ended_as};
+ghost use Rattle.intake.specs.Told.{Put};
 
 use command::Asked;
-use shell::{Ended, NAME_ROOM, Opened, Program, Status};
+use shell::{Ended, NAME_ROOM, Opened, Program, Status, Told};
 use std::io;
 use std::io::{Error, ErrorKind, Read};
 
@@ -103,7 +107,7 @@ fn ended(input: Result<usize, Ended>) -> Result<Long, Ended>
     }
 }
 
-// A program's first step, as `Program::begin`, with an input of any length.
+// A program's first step, as `Program::begin_from`, with an input of any length.
 pub fn begin(rt: &HostRuntime, program: &Program<'_>, buffer: &mut [u8]) -> Result<Long, Ended>
     ensures { LongCame result buffer.new }
 {
@@ -133,5 +137,39 @@ fn begin_as(
         Asked::Usage | Asked::Number | Asked::Unknown(_) | Asked::Second(_) => {
             ended(program.begin_as(rt, asked, buffer))
         }
+    }
+}
+
+// Tells by `answer` of the input that the words ask for, of which at most so many bytes are kept.
+pub fn run<const ROOM: usize, A: FnOnce(&[u8], usize) -> Ended>(
+    rt: &HostRuntime,
+    program: &Program<'_>,
+    answer: A,
+) -> Ended
+    requires room { ROOM < 2 ^ 63 }
+    requires callable { (front : _) (total : _) → feeds front.now ≤ total → A.pre answer front total }
+    requires low { (front : _) (total : _) (ended : _) → A.post answer front total ended → ended.0 ≤ failed }
+    ensures { result.0 ≤ failed }
+{
+    let mut buffer = [0u8; ROOM];
+    match begin(rt, program, &mut buffer) {
+        Ok(Long { front, total }) => answer(&buffer[..front], total),
+        Err(ended) => ended,
+    }
+}
+
+// What a refused list comes to, by its number and place.
+pub fn tell_refused(name: &[u8], number: u64, place: u64, out: &mut [u8], words: &mut [u8]) -> Told
+    requires name_bound { length name.now ≤ 32 }
+    requires in_bounds { 256 ≤ length out.old }
+    requires in_bounds_2 { 256 ≤ length words.old }
+    ensures put { Put (listing_of (Refused number place)) out.old out.new result.listed }
+    ensures put_2 { Put (said name.now number place no_tag) words.old words.new result.said }
+    ensures status_value { result.status ≡ Status.Refused }
+{
+    Told {
+        status: Status::Refused,
+        listed: printing::put_refusal(out, number, place),
+        said: reasons::put_said(words, name, number, place, reasons::NO_TAG),
     }
 }

@@ -13,7 +13,6 @@ ghost use Rattle.intake.specs.Told.{Put, status_by, said_by, Ends, Exit};
 ghost use Rattle.watch.specs.Moves.{listing_by};
 ghost use Rattle.moves.specs.Sizes.{listing_room};
 
-use intake::Long;
 use listing::put_days;
 use rules::refusal;
 use shell::{Ended, Program, Status, Told};
@@ -55,11 +54,7 @@ fn tell(front: &[u8], total: usize, spans: &mut [u8], out: &mut [u8], words: &mu
             said: 0,
         };
     }
-    Told {
-        status: Status::Refused,
-        listed: printing::put_refusal(out, found.number, found.place),
-        said: reasons::put_said(words, b"moves", found.number, found.place, reasons::NO_TAG),
-    }
+    intake::tell_refused(b"moves", found.number, found.place, out, words)
 }
 
 // Tells of a list.
@@ -78,11 +73,7 @@ fn answer(rt: &HostRuntime, front: &[u8], total: usize) -> Ended
 pub fn frundavel_main(rt: &HostRuntime) -> i32
     ensures { Exit result }
 {
-    let mut buffer = [0u8; FRONT];
-    let ended = match intake::begin(rt, &PROGRAM, &mut buffer) {
-        Ok(Long { front, total }) => answer(rt, &buffer[..front], total),
-        Err(ended) => ended,
-    };
+    let ended = intake::run::<FRONT, _>(rt, &PROGRAM, |front, total| answer(rt, front, total));
     ended.0 as i32
 }
 

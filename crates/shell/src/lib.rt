@@ -2,7 +2,7 @@
 // status. Of a read or a write std says how many bytes moved at most; that these are the file's is not proved.
 #![tactic(auto)]
 
-ghost use Rattle.std.specs.Prelude.{◌≡◌, ◌⊎◌, ◌≤◌, length};
+ghost use Rattle.std.specs.Prelude.{◌≡◌, ◌⊎◌, ◌≤◌, ◌<◌, ◌^◌, length};
 ghost use Rattle.laws.specs.Filled.{filled};
 ghost use Rattle.shell.specs.Shell.{
   failed,
@@ -417,14 +417,8 @@ impl Program<'_> {
         }
     }
 
-    // A program's first step: `PROGRAM [FILE]`, standard input where there is no file or it is `-`, `--help` and `--version`.
-    pub fn begin(&self, rt: &HostRuntime, buffer: &mut [u8]) -> Result<usize, Ended>
-        ensures { Came result (length buffer.old) }
-    {
-        self.begin_from(rt, 1, buffer)
-    }
-
-    // The same for the words from place `first` on, behind those that a program reads by itself.
+    // A program's first step, by its words from place `first` on: `[FILE]`, standard input where there is no file or it is `-`, `--help` and
+    // `--version`.
     pub fn begin_from(
         &self,
         rt: &HostRuntime,
@@ -434,5 +428,24 @@ impl Program<'_> {
         ensures { Came result (length buffer.old) }
     {
         self.begin_as(rt, ask_from(rt, first, word_count(rt, usize::MAX)), buffer)
+    }
+
+    // Tells by `answer` of the input that the words from place `first` on ask for, of which at most so many bytes are read.
+    pub fn run_from<const ROOM: usize, A: FnOnce(&[u8]) -> Ended>(
+        &self,
+        rt: &HostRuntime,
+        first: usize,
+        answer: A,
+    ) -> Ended
+        requires room { ROOM < 2 ^ 63 }
+        requires callable { A.IsAlwaysCallable answer }
+        requires low { (input : _) (ended : _) → A.post answer input ended → ended.0 ≤ failed }
+        ensures { result.0 ≤ failed }
+    {
+        let mut buffer = [0u8; ROOM];
+        match self.begin_from(rt, first, &mut buffer) {
+            Ok(n) => answer(&buffer[..n]),
+            Err(ended) => ended,
+        }
     }
 }
