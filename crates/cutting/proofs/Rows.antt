@@ -2,7 +2,7 @@
 -- Assumes nothing.
 use Prim.Native.Nat.{ℕ, suc, ◌+◌, ◌-◌, ◌≤◌, ◌<◌}
 use mathlib.Core.Path.{◌≡◌, refl, sym, ap, ap₂, subst, ◌∙◌}
-use mathlib.Core.Bool.{Bool, true, false, cond, not}
+use mathlib.Core.Bool.{Bool, false, cond, not}
 use mathlib.Core.List.{List, [], ◌∷◌, ◌++◌, map, append_assoc, append-nil}
 use native.Mathlib.Numerals.{add-one}
 use native.Mathlib.Omega.{arith}
@@ -13,9 +13,7 @@ use borrow.Author.Tests.{eqb-true, eqb-false, ne_eqb, ltb-true, ltb-false}
 use Rattle.std.specs.Prelude.{Some, None, nat_eq, nat_lt}
 use Rattle.std.specs.List.{prefix_len, position, position_or_len, before_first, after_first}
 use Rattle.std.proofs.lemmas.List.Sums.{prefix_len-le-length}
-use Rattle.rules.specs.declared.Figure.TheVariants.{Malformed}
 use Rattle.rules.specs.Text.{is}
-use Rattle.rules.specs.Figures.{held_form, written_of, figure_of}
 use Rattle.rules.specs.Opening.{up_to_blank, after_blank}
 use Rattle.rules.specs.Report.{digits}
 use Rattle.laws.specs.ByTest.{by_test}
@@ -82,11 +80,6 @@ lines_first (b ∷ x ∷ s) h = by_test (is "\n" b) (λ e. simp e) (λ e. simp e
 pub lines_none : (s : List ℕ) → length s ≡ 0 → lines_of s ≡ []
 lines_none [] h = refl
 lines_none (b ∷ s) h = absurd (omega arith)
-
--- an empty figure is none
-pub empty_none : figure_of held_form [] ≡ Malformed
-unfolding figure_of written_of
-empty_none = refl
 
 -- lots of the first four lines
 pub record Taken (all : List (List ℕ)) (rest : List (List ℕ)) (lots : List ℕ) (k : ℕ) : Type 0 where

@@ -4,15 +4,13 @@ use Prim.Native.Nat.{ℕ, suc, ◌*◌, ◌-◌, ◌≤◌}
 use mathlib.Core.Path.{◌≡◌, refl, sym, ap, ap₂, subst, ◌∙◌}
 use mathlib.Core.List.{List, [], ◌∷◌, map}
 use mathlib.Core.Bool.{Bool, true, false, not, ◌||◌, or-true}
-use mathlib.Core.Logic.{⊎_elim}
 use native.Mathlib.Omega.{arith}
 use native.Mathlib.Nat.{zero-add}
 use lib.ListN.{length, take, drop, replicate, length-append, length-take, length-drop, length-map}
 use lib.Seq.{take_all, take-append_seam}
 use lib.Dec.{ltb, eqb}
-use lib.IntN.{pos}
-use mir.Syntax.{w32, w64}
-use mir.Val.{Fits, SFits, to_z}
+use mir.Syntax.{w64}
+use mir.Val.{Fits}
 use borrow.Author.Tests.{le-ltb, ltb-false}
 use Rattle.rules.specs.Book.{Refused as Refused01}
 use Rattle.rules.specs.Report.{listing_of}
@@ -38,7 +36,7 @@ use Rattle.cutback.proofs.Lots.{all_small}
 use Rattle.cutback.proofs.Judging.{Accepted, accepted}
 use Rattle.writing.specs.Written.{Wrote, written_nothing}
 use Rattle.allotment.specs.Listed.{Listed}
-use Rattle.cutting.specs.Told.{grams_of, lots_of, seats, read, verdict, row, rows, status_of, Ends, Exit}
+use Rattle.cutting.specs.Told.{grams_of, lots_of, seats, read, verdict, row, rows}
 use Rattle.cutting.proofs.Rows.{row_length, behind_none, behind_more}
 
 -- more lots than four are never looked at

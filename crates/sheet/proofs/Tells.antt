@@ -6,18 +6,16 @@ use mathlib.Core.List.{List}
 use native.Mathlib.Omega.{arith}
 use native.Mathlib.Nat.{zero-add}
 use borrow.Author.Tests.{eq-eqb, ne_eqb}
-use lib.Dec.{eqb}
 use lib.ListN.{length}
 use mir.Syntax.{w64}
 use mir.Val.{Fits}
 use Rattle.rules.specs.Text.{bytes}
-use Rattle.laws.specs.ByTest.{by_test}
 use Rattle.laws.specs.Digits.{digits_length_20}
 use Rattle.writing.specs.Written.{Wrote, written_nothing}
 use Rattle.reasons.specs.Reason.{field_at, said}
 use Rattle.reasons.specs.Sizes.{reason_short, said_length}
 use Rattle.allotment.specs.Listed.{Listed}
-use Rattle.sheet.specs.Told.{status_of, said_of, Ends, unwritten, told, Low}
+use Rattle.sheet.specs.Told.{said_of}
 
 -- a line has room
 pub short : (n place f : ℕ) → Fits w64 n → Fits w64 place → length (said (bytes "sheet") n place f) ≤ 256
@@ -33,11 +31,3 @@ pub refused : (book e x : List ℕ) (n place f r : ℕ) → (n ≡ 0 → ⊥) �
 refused book e x n place f r z same w h =
     let line : Wrote 0 (said (bytes "sheet") n place (field_at book place)) e x r = subst (λ (k : ℕ). Wrote 0 (said (bytes "sheet") n place k) e x r) same w in
     rw (ne_eqb n 0 z) (record { buffer = line.whole; size = line.next ∙ zero-add _; room = h })
-
--- every status is 0, 1 or 2
-low : (n : ℕ) → Low (status_of n)
-low n = by_test (eqb n 0) (λ b. simp b (omega arith)) (λ b. simp b (omega arith))
-
-pub small : {n r : ℕ} → Ends n r → Low r
-small (unwritten e) = omega arith
-small {n} (told e) = omega (arith, low n)

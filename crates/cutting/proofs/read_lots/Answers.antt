@@ -1,6 +1,6 @@
 -- One line more at each turn; none is left, or four are read.
 -- Assumes nothing.
-use Rattle.std.proofs.Common.{◌≡◌, ◌<◌, length, take, arith, ap, sym, ◌∙◌, ◌∷◌, List, ℕ}
+use Rattle.std.proofs.Common.{◌≡◌, length, take, arith, ap, sym, ◌∙◌, ◌∷◌, List, ℕ}
 use Rattle.std.proofs.lemmas.List.{take-set}
 use borrow.Author.Tests.{eqb-true, eqb-false}
 use Rattle.reasons.specs.Lines.{first_line}

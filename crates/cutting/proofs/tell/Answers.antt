@@ -1,7 +1,6 @@
 -- What is told by the verdict.
 -- Assumes nothing.
-use Rattle.std.proofs.Common.{◌≤◌, arith, refl, rules, length, drop, length-take, ap}
-use Rattle.allotment.specs.Listed.{Listed}
+use Rattle.std.proofs.Common.{arith, refl, rules}
 use Rattle.cutting.proofs.Telling.{refused_so, rowed_so, said_fits, refusal_fits, listed_so, lines_so, nothing_listed}
 use Rattle.cutting.proofs.tell.Goals as goal
 

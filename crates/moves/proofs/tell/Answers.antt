@@ -1,6 +1,7 @@
 -- The listing of the verdict, its words and its status.
 -- Assumes nothing.
-use Rattle.std.proofs.Common.{arith, take, length-take}
+use Rattle.std.proofs.Common.{ap, ◌∙◌, arith, take, length-take}
+use Rattle.shell.specs.Shell.{number_of}
 use Rattle.intake.specs.Telling.{put_so, put_same, put_none}
 use Rattle.moves.specs.Sizes.{listed_short}
 use Rattle.moves.proofs.Tells.{took, not_taken}
@@ -37,4 +38,4 @@ pub returns-clause-put_2 : goal.returns-clause-put_2
 returns-clause-put_2 c = put_same (not_taken _ _ _ _ _ c.requires.front_bound c.requires.in_bounds c.moves_in-found.ensures c.if-found-eq-ACCEPTED.false).line c.tell_refused.ensures.put_2
 
 pub returns-clause-status_value : goal.returns-clause-status_value
-returns-clause-status_value c = rw c.tell_refused.ensures.status_value (not_taken _ _ _ _ _ c.requires.front_bound c.requires.in_bounds c.moves_in-found.ensures c.if-found-eq-ACCEPTED.false).status
+returns-clause-status_value c = ap number_of c.tell_refused.ensures.status_value ∙ (not_taken _ _ _ _ _ c.requires.front_bound c.requires.in_bounds c.moves_in-found.ensures c.if-found-eq-ACCEPTED.false).status
