@@ -1,15 +1,13 @@
 -- What is told of a book, by its verdict.
 -- Assumes nothing.
-use Prim.Native.Nat.{ℕ, zero, suc, ◌≤◌}
+use Prim.Native.Nat.{ℕ, ◌≤◌}
 use mathlib.Core.Path.{◌≡◌, refl, sym, ◌∙◌}
 use mathlib.Core.List.{List}
-use mathlib.Core.Logic.{⊎_elim}
 use native.Mathlib.Omega.{arith}
 use native.Mathlib.Nat.{zero-add}
 use lib.ListN.{length}
-use mir.Syntax.{w32, w64}
-use mir.Val.{Fits, SFits, to_z}
-use lib.IntN.{pos}
+use mir.Syntax.{w64}
+use mir.Val.{Fits}
 use Rattle.rules.specs.Text.{bytes}
 use Rattle.rules.specs.Book.{Verdict, Refused, Accepted, judge}
 use Rattle.laws.specs.Sane.{refused_above}
@@ -18,7 +16,7 @@ use Rattle.writing.specs.Written.{Wrote, written_nothing}
 use Rattle.reasons.specs.Reason.{field_at, said}
 use Rattle.reasons.specs.Sizes.{reason_short, said_length}
 use Rattle.allotment.specs.Listed.{Judged, Listed}
-use Rattle.allot.specs.Told.{status_of, said_of, Ends, Exit}
+use Rattle.allot.specs.Told.{status_of, said_of}
 
 -- a line has room
 pub short : (n place f : ℕ) → Fits w64 n → Fits w64 place → length (said (bytes "allot") n place f) ≤ 256
@@ -39,21 +37,3 @@ accepted s e n place j z = go (judge s) refl j
     go : (v : Verdict) → judge s ≡ v → Judged v n place → Listed (said_of s v) e e 0 × (0 ≡ status_of v)
     go (Refused m at) k j = absurd (let p = refused_above s m at k in let q : n ≡ m = j.0 in omega arith)
     go (Accepted terms cs) k j = (record { buffer = sym (written_nothing 0 e); size = refl; room = omega arith }, refl)
-
--- every status is 0, 1 or 2
-pub small : (v : Verdict) (r : ℕ) → Ends v r → r ≤ 2
-small v r = ⊎_elim (λ e. omega arith) (go v)
-  where
-    go : (w : Verdict) → r ≡ status_of w → r ≤ 2
-    go (Refused n place) h = omega arith
-    go (Accepted terms cs) h = omega arith
-
--- and an i32 holds it
-pub held : (k : ℕ) → k ≤ 2 → SFits w32 (pos k)
-held k h = omega arith
-
-pub exits : (k : ℕ) → k ≤ 2 → Exit (to_z w32 k)
-exits zero h = omega arith
-exits (suc zero) h = omega arith
-exits (suc (suc zero)) h = omega arith
-exits (suc (suc (suc k))) h = absurd (omega arith)

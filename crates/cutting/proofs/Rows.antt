@@ -1,72 +1,85 @@
 -- The lines of the seats: what stands before the first blank and after it, the next line, and the rows that are listed.
 -- Assumes nothing.
-use Prim.Native.Nat.{ℕ, suc, ◌+◌, ◌-◌, ◌≤◌, ◌<◌, min}
+use Prim.Native.Nat.{ℕ, suc, ◌+◌, ◌-◌, ◌≤◌, ◌<◌}
 use mathlib.Core.Path.{◌≡◌, refl, sym, ap, ap₂, subst, ◌∙◌}
+use mathlib.Core.Bool.{Bool, false, cond, not}
 use mathlib.Core.List.{List, [], ◌∷◌, ◌++◌, map, append_assoc, append-nil}
 use native.Mathlib.Numerals.{add-one}
 use native.Mathlib.Omega.{arith}
-use lib.ListN.{length, get_or, take, drop, set, length-append, length-set, length-drop, drop_of_length-le}
-use lib.Seq.{take_all, drop-drop, take-nil, take-suc-set}
-use lib.Dec.{ltb}
-use borrow.Author.Tests.{ltb-true, ltb-false}
-use Rattle.rules.specs.declared.Figure.TheVariants.{Malformed}
+use lib.ListN.{length, get_or, take, drop, set, length-append, length-set, drop_of_length-le}
+use lib.Seq.{take-nil, take-suc-set}
+use lib.Dec.{eqb}
+use borrow.Author.Tests.{eqb-true, eqb-false, ne_eqb, ltb-true, ltb-false}
+use Rattle.std.specs.Prelude.{Some, None, nat_eq, nat_lt}
+use Rattle.std.specs.List.{prefix_len, position, position_or_len, before_first, after_first}
+use Rattle.std.proofs.lemmas.List.Sums.{prefix_len-le-length}
 use Rattle.rules.specs.Text.{is}
-use Rattle.rules.specs.Figures.{held_form, written_of, figure_of}
 use Rattle.rules.specs.Opening.{up_to_blank, after_blank}
 use Rattle.rules.specs.Report.{digits}
 use Rattle.laws.specs.ByTest.{by_test}
-use Rattle.reasons.specs.Lines.{first_line}
-use Rattle.reasons.proofs.Texts.{drop_step, first_short, first_part}
-use Rattle.cutback.specs.Lines.{lines_of, codes_ahead}
-use Rattle.cutback.proofs.Places.{head_part, lines_cons}
+use Rattle.reasons.specs.Lines.{left_behind, behind_lines, first_line}
+use Rattle.reasons.proofs.Texts.{drop_step}
+use Rattle.cutback.specs.Lines.{onto, lines_of, codes_ahead}
 use Rattle.writing.specs.Written.{Wrote, written_nothing, written_length, join}
 use Rattle.cutting.specs.Told.{lots_of, row, rows}
 
-pub head_of_lem : (l : List ℕ) → take (length (up_to_blank l)) l ≡ up_to_blank l
-head_of_lem [] = refl
-head_of_lem (b ∷ l) = by_test (is " " b) (λ e. simp e) (λ e. simp e (ap (λ (s : List ℕ). b ∷ s) (head_of_lem l)))
+-- the bytes around the first that passes
+module _ (p : ℕ → Bool) (F : List ℕ → List ℕ) (none : F [] ≡ []) where
+  before_by : ((x : ℕ) (xs : List ℕ) → F (x ∷ xs) ≡ cond (p x) [] (x ∷ F xs)) → (xs : List ℕ) → before_first p xs ≡ F xs
+  before_by step [] = sym none
+  before_by step (x ∷ xs) =
+      by_test (p x) (λ e. simp (step x xs, e))
+      (λ e. let n : 1 + prefix_len (λ y. not (p y)) xs ≡ suc (prefix_len (λ y. not (p y)) xs) = omega arith in simp (step x xs, e, n) (ap (λ (l : List ℕ). x ∷ l) (before_by step xs)))
 
-pub head_le : (l : List ℕ) → length (up_to_blank l) ≤ length l
-head_le [] = omega arith
-head_le (b ∷ l) = by_test (is " " b) (λ e. simp e (omega arith)) (λ e. simp e (omega (arith, head_le l)))
+  after_by : ((x : ℕ) (xs : List ℕ) → F (x ∷ xs) ≡ cond (p x) xs (F xs)) → (xs : List ℕ) → after_first p xs ≡ F xs
+  after_by step [] = sym none
+  after_by step (x ∷ xs) =
+      by_test (p x) (λ e. simp (step x xs, e))
+      (λ e. let n : 1 + prefix_len (λ y. not (p y)) xs + 1 ≡ suc (prefix_len (λ y. not (p y)) xs + 1) = omega arith in simp (step x xs, e, n) (after_by step xs))
 
-pub no_blank : (l : List ℕ) → length l ≤ length (up_to_blank l) → after_blank l ≡ []
-no_blank [] h = refl
-no_blank (b ∷ l) h = by_test (is " " b) (λ e. absurd (omega (arith, simp e at h))) (λ e. simp e (no_blank l (omega (arith, simp e at h))))
+-- the place of the first that passes
+pub found : (p : ℕ → Bool) (xs : List ℕ) (i : ℕ) → position p xs ≡ Some i → (i ≡ position_or_len p xs) × (i < length xs)
+found p xs i h =
+    by_test (nat_lt (position_or_len p xs) (length xs)) (λ e. let q : Some (position_or_len p xs) ≡ Some i = rw e at h in let s : position_or_len p xs ≡ i = cc in (sym s, omega (arith, ltb-true _ _ e)))
+    (λ e. let q : None ≡ Some i = rw e at h in absurd cc)
 
-pub after_blank_lem : (l : List ℕ) → length (up_to_blank l) < length l → drop (suc (length (up_to_blank l))) l ≡ after_blank l
-after_blank_lem [] h = refl
-after_blank_lem (b ∷ l) h = by_test (is " " b) (λ e. simp e) (λ e. simp e (after_blank_lem l (omega (arith, simp e at h))))
+pub missed : (p : ℕ → Bool) (xs : List ℕ) → position p xs ≡ None → position_or_len p xs ≡ length xs
+missed p xs h =
+    by_test (nat_lt (position_or_len p xs) (length xs)) (λ e. let q : Some (position_or_len p xs) ≡ None = rw e at h in absurd cc)
+    (λ e. omega (arith, ltb-false _ _ e, prefix_len-le-length (λ x. not (p x)) xs))
 
-pub after_part : (l : List ℕ) (k : ℕ) → k ≡ length (up_to_blank l) → k < length l → take (length l - (k + 1)) (drop (k + 1) l) ≡ after_blank l
-after_part l k e h =
-    let n : length (drop (k + 1) l) ≤ length l - (k + 1) = omega (arith, length-drop (k + 1) l) in
-    take_all (length l - (k + 1)) (drop (k + 1) l) n ∙ ap (λ m. drop m l) (add-one k ∙ ap suc e) ∙ after_blank_lem l (omega arith)
+pub to_blank : (l : List ℕ) → before_first (λ b. nat_eq b 32) l ≡ up_to_blank l
+to_blank l = before_by (λ b. nat_eq b 32) up_to_blank refl (λ x xs. refl) l
 
--- an empty figure is none
-pub empty_none : figure_of held_form [] ≡ Malformed
-unfolding figure_of written_of
-empty_none = refl
+pub past_blank : (l : List ℕ) → after_first (λ b. nat_eq b 32) l ≡ after_blank l
+past_blank l = after_by (λ b. nat_eq b 32) after_blank refl (λ x xs. refl) l
 
--- the line from a place on, and where the next begins
-module _ (text : List ℕ) (at end : ℕ) (h : at < length text) (e : end ≡ at + length (first_line (drop at text))) where
-  pub line_inside : end ≤ length text
-  line_inside = omega (arith, first_short (drop at text), length-drop at text)
+pub to_feed : (l : List ℕ) → before_first (λ b. nat_eq b 10) l ≡ first_line l
+to_feed l = before_by (λ b. nat_eq b 10) first_line refl (λ x xs. refl) l
 
-  pub line_is : take (end - at) (drop at text) ≡ first_line (drop at text)
-  line_is = let n : end - at ≡ length (first_line (drop at text)) = omega arith in ap (λ m. take m (drop at text)) n ∙ first_part (drop at text)
+pub behind_none : (s : List ℕ) → behind_lines 0 s ≡ s
+behind_none [] = refl
+behind_none (b ∷ s) = refl
 
-  rest : drop (suc (length (first_line (drop at text)))) (drop at text) ≡ drop (min (end + 1) (length text)) text
-  rest =
-      let n : at + suc (length (first_line (drop at text))) ≡ end + 1 = omega arith in
-      drop-drop (suc (length (first_line (drop at text)))) at text ∙ ap (λ m. drop m text) n ∙ cut
-    where
-      cut : drop (end + 1) text ≡ drop (min (end + 1) (length text)) text
-      cut = by_test (ltb end (length text)) (λ t. let p : min (end + 1) (length text) ≡ end + 1 = omega (arith, ltb-true end (length text) t) in ap (λ m. drop m text) (sym p))
-          (λ t. let q : length text ≤ end + 1 = omega (arith, ltb-false end (length text) t) in let r : length text ≤ min (end + 1) (length text) = omega arith in drop_of_length-le text q ∙ sym (drop_of_length-le text r))
+pub past_feed : (l : List ℕ) → after_first (λ b. nat_eq b 10) l ≡ behind_lines 1 l
+past_feed l =
+    after_by (λ b. nat_eq b 10) (behind_lines 1) refl (λ x xs. by_test (eqb x 10) (λ e. simp e (behind_none xs)) (λ e. simp e)) l
 
-  pub next_line : lines_of (drop at text) ≡ take (end - at) (drop at text) ∷ lines_of (drop (min (end + 1) (length text)) text)
-  next_line = lines_cons (drop at text) (omega (arith, length-drop at text)) ∙ ap₂ (λ (l : List ℕ) (t : List ℕ). l ∷ lines_of t) (sym line_is) rest
+-- the lines one after the other
+pub behind_more : (k m : ℕ) (s : List ℕ) → m ≡ k + 1 → behind_lines 1 (behind_lines k s) ≡ behind_lines m s
+behind_more k m [] h = refl
+behind_more k m (b ∷ s) h =
+    by_test (eqb k 0) (λ e. let one : 1 ≡ m = omega (arith, eqb-true k 0 e) in simp e (ap (λ n. behind_lines n (b ∷ s)) one))
+    (λ e. let other : eqb m 0 ≡ false = ne_eqb m 0 (λ z. omega arith) in simp (e, other) (behind_more (left_behind k b) (left_behind m b) s (by_test (eqb b 10) (λ f. simp f (omega (arith, eqb-false k 0 e))) (λ f. simp f h))))
+
+pub lines_first : (s : List ℕ) → 0 < length s → lines_of s ≡ first_line s ∷ lines_of (behind_lines 1 s)
+lines_first [] h = absurd (omega arith)
+lines_first (b ∷ []) h = by_test (is "\n" b) (λ e. simp e) (λ e. simp e)
+lines_first (b ∷ x ∷ s) h = by_test (is "\n" b) (λ e. simp e) (λ e. simp e (ap (onto b) (lines_first (x ∷ s) (omega arith))))
+
+pub lines_none : (s : List ℕ) → length s ≡ 0 → lines_of s ≡ []
+lines_none [] h = refl
+lines_none (b ∷ s) h = absurd (omega arith)
 
 -- lots of the first four lines
 pub record Taken (all : List (List ℕ)) (rest : List (List ℕ)) (lots : List ℕ) (k : ℕ) : Type 0 where
@@ -77,7 +90,7 @@ pub record Taken (all : List (List ℕ)) (rest : List (List ℕ)) (lots : List �
 pub taken_none : (all : List (List ℕ)) (lots : List ℕ) → length lots ≡ 4 → Taken all all lots 0
 taken_none all lots h = record { few = omega arith; room = h; whole = refl }
 
-module _ (all rest : List (List ℕ)) (lots : List ℕ) (k : ℕ) (t : Taken all rest lots k) where
+module _ {all rest : List (List ℕ)} {lots : List ℕ} {k : ℕ} (t : Taken all rest lots k) where
   pub taken_more : (line : List ℕ) (next : List (List ℕ)) (n : ℕ) → k < 4 → rest ≡ line ∷ next → n ≡ lots_of line → Taken all next (set lots k n) (k + 1)
   taken_more line next n h e f =
       let m : 4 - k ≡ suc (4 - (k + 1)) = omega arith in
@@ -104,83 +117,56 @@ rows_done [] = refl
 rows_done (c ∷ cs) = refl
 
 -- what is listed when i rows are
-pub record Put (entry lines cuts out : List ℕ) (here at i : ℕ) : Type 0 where
+pub record Put (entry lines cuts out rest : List ℕ) (here i : ℕ) : Type 0 where
   pub done : List ℕ
   pub wrote : Wrote 0 done entry out here
-  pub whole : done ++ rows (codes_ahead (drop at lines)) (drop i cuts) ≡ rows (codes_ahead lines) cuts
-  pub inside : at ≤ length lines
+  pub whole : done ++ rows (codes_ahead rest) (drop i cuts) ≡ rows (codes_ahead lines) cuts
   pub within : i ≤ length cuts
-  pub passed : i + length (lines_of (drop at lines)) ≡ length (lines_of lines)
+  pub passed : i + length (lines_of rest) ≡ length (lines_of lines)
   pub same : length out ≡ length entry
 
-pub put_none : (entry lines cuts : List ℕ) → Put entry lines cuts entry 0 0 0
+pub put_none : (entry lines cuts : List ℕ) → Put entry lines cuts entry lines 0 0
 put_none entry lines cuts =
     record {
       done = [];
       wrote = record { whole = sym (written_nothing 0 entry); next = refl };
       whole = refl;
-      inside = omega arith;
       within = omega arith;
       passed = omega arith;
       same = refl;
     }
 
-module _ (entry lines cuts out : List ℕ) (here at i : ℕ) (p : Put entry lines cuts out here at i) where
+module _ {entry lines cuts out rest : List ℕ} {here i : ℕ} (p : Put entry lines cuts out rest here i) where
   pub put_all : length cuts ≤ i → Wrote 0 (rows (codes_ahead lines) cuts) entry out here
   put_all h =
       let e : drop i cuts ≡ [] = drop_of_length-le cuts h in
-      let w : p.done ≡ rows (codes_ahead lines) cuts = sym (append-nil p.done) ∙ ap (λ (l : List ℕ). p.done ++ l) (sym (ap (rows (codes_ahead (drop at lines))) e ∙ rows_done (codes_ahead (drop at lines)))) ∙ p.whole in
+      let w : p.done ≡ rows (codes_ahead lines) cuts = sym (append-nil p.done) ∙ ap (λ (l : List ℕ). p.done ++ l) (sym (ap (rows (codes_ahead rest)) e ∙ rows_done (codes_ahead rest))) ∙ p.whole in
       subst (λ (x : List ℕ). Wrote 0 x entry out here) w p.wrote
 
   module _ (few : length cuts ≤ length (lines_of lines)) (h : i < length cuts) where
-    pub line_there : at < length lines
-    line_there =
-        by_test (ltb at (length lines)) (λ t. ltb-true at (length lines) t)
-        (λ t. absurd (let e : drop at lines ≡ [] = drop_of_length-le lines (ltb-false at (length lines) t) in omega (arith, p.passed, ap (λ (l : List ℕ). length (lines_of l)) e)))
+    line_there : 0 < length rest
+    line_there = by_test (eqb (length rest) 0) (λ e. absurd (omega (arith, p.passed, ap length (lines_none rest (eqb-true _ _ e))))) (λ e. omega (arith, eqb-false _ _ e))
 
-    module _ (end stop : ℕ) (e : end ≡ at + length (first_line (drop at lines))) (f : stop ≡ at + length (up_to_blank (take (end - at) (drop at lines)))) where
-      abbrev line : List ℕ
-      line = take (end - at) (drop at lines)
+    lines_so : lines_of rest ≡ first_line rest ∷ lines_of (behind_lines 1 rest)
+    lines_so = lines_first rest line_there
 
-      line_so : line ≡ first_line (drop at lines)
-      line_so = line_is lines at end line_there e
+    module _ {code next : List ℕ} {cut : ℕ} (c : code ≡ up_to_blank (first_line rest)) (n : next ≡ behind_lines 1 rest) (g : cut ≡ get_or cuts i 0) where
+      rows_so : rows (codes_ahead rest) (drop i cuts) ≡ row code cut ++ rows (codes_ahead next) (drop (i + 1) cuts)
+      rows_so = rw (c, n, g) (ap₂ rows (ap (map up_to_blank) lines_so) (drop_step cuts i h))
 
-      pub stop_inside : stop ≤ length lines
-      stop_inside = omega (arith, head_le line, ap length line_so, first_short (drop at lines), length-drop at lines)
-
-      abbrev code : List ℕ
-      code = take (stop - at) (drop at lines)
-
-      code_so : code ≡ up_to_blank line
-      code_so =
-          let n : stop - at ≡ length (up_to_blank (first_line (drop at lines))) = omega (arith, ap (λ (l : List ℕ). length (up_to_blank l)) line_so) in
-          ap (λ m. take m (drop at lines)) n ∙ head_part (drop at lines) ∙ ap up_to_blank (sym line_so)
-
-      abbrev next : ℕ
-      next = min (end + 1) (length lines)
-
-      lines_so : lines_of (drop at lines) ≡ line ∷ lines_of (drop next lines)
-      lines_so = next_line lines at end line_there e
-
-      rows_so : rows (codes_ahead (drop at lines)) (drop i cuts) ≡ row code (get_or cuts i 0) ++ rows (codes_ahead (drop next lines)) (drop (i + 1) cuts)
-      rows_so =
-          ap₂ rows (ap (map up_to_blank) lines_so) (drop_step cuts i h)
-          ∙ ap (λ (c : List ℕ). row c (get_or cuts i 0) ++ rows (codes_ahead (drop next lines)) (drop (i + 1) cuts)) (sym code_so)
-
-      pub row_room : length (rows (codes_ahead lines) cuts) ≤ length entry → here + length (row code (get_or cuts i 0)) ≤ length out
+      pub row_room : length (rows (codes_ahead lines) cuts) ≤ length entry → here + length (row code cut) ≤ length out
       row_room r =
           let all = ap length p.whole in
-          let rest = ap length rows_so in
-          omega (arith, p.wrote.next, p.same, length-append p.done (rows (codes_ahead (drop at lines)) (drop i cuts)), length-append (row code (get_or cuts i 0)) (rows (codes_ahead (drop next lines)) (drop (i + 1) cuts)))
+          let more = ap length rows_so in
+          omega (arith, p.wrote.next, p.same, length-append p.done (rows (codes_ahead rest) (drop i cuts)), length-append (row code cut) (rows (codes_ahead next) (drop (i + 1) cuts)))
 
-      pub put_more : length (rows (codes_ahead lines) cuts) ≤ length entry → (exit : List ℕ) (r : ℕ) → Wrote here (row code (get_or cuts i 0)) out exit r → Put entry lines cuts exit r next (i + 1)
-      put_more room exit r w =
+      pub put_more : length (rows (codes_ahead lines) cuts) ≤ length entry → {exit : List ℕ} {r : ℕ} → Wrote here (row code cut) out exit r → Put entry lines cuts exit next r (i + 1)
+      put_more room {exit} {r} w =
           record {
-            done = p.done ++ row code (get_or cuts i 0);
+            done = p.done ++ row code cut;
             wrote = join p.wrote w (omega arith);
-            whole = append_assoc p.done (row code (get_or cuts i 0)) (rows (codes_ahead (drop next lines)) (drop (i + 1) cuts)) ∙ ap (λ (l : List ℕ). p.done ++ l) (sym rows_so) ∙ p.whole;
-            inside = omega arith;
+            whole = append_assoc p.done (row code cut) (rows (codes_ahead next) (drop (i + 1) cuts)) ∙ ap (λ (l : List ℕ). p.done ++ l) (sym rows_so) ∙ p.whole;
             within = omega arith;
-            passed = omega (arith, p.passed, ap length lines_so);
-            same = ap length w.whole ∙ written_length here (row code (get_or cuts i 0)) out (row_room room) ∙ p.same;
+            passed = let more = ap (λ (l : List ℕ). length (lines_of l)) n in omega (arith, p.passed, ap length lines_so);
+            same = ap length w.whole ∙ written_length here (row code cut) out (row_room room) ∙ p.same;
           }

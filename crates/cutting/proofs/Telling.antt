@@ -1,17 +1,16 @@
 -- What is told of an input, by its verdict.
 -- Assumes nothing.
-use Prim.Native.Nat.{ℕ, zero, suc, ◌+◌, ◌-◌, ◌*◌, ◌≤◌}
+use Prim.Native.Nat.{ℕ, suc, ◌*◌, ◌-◌, ◌≤◌}
 use mathlib.Core.Path.{◌≡◌, refl, sym, ap, ap₂, subst, ◌∙◌}
 use mathlib.Core.List.{List, [], ◌∷◌, map}
 use mathlib.Core.Bool.{Bool, true, false, not, ◌||◌, or-true}
-use mathlib.Core.Logic.{⊎_elim}
 use native.Mathlib.Omega.{arith}
-use lib.ListN.{length, take, drop, replicate, length-append, length-take, length-map}
+use native.Mathlib.Nat.{zero-add}
+use lib.ListN.{length, take, drop, replicate, length-append, length-take, length-drop, length-map}
 use lib.Seq.{take_all, take-append_seam}
 use lib.Dec.{ltb, eqb}
-use lib.IntN.{pos}
-use mir.Syntax.{w32, w64}
-use mir.Val.{Fits, SFits, to_z}
+use mir.Syntax.{w64}
+use mir.Val.{Fits}
 use borrow.Author.Tests.{le-ltb, ltb-false}
 use Rattle.rules.specs.Book.{Refused as Refused01}
 use Rattle.rules.specs.Report.{listing_of}
@@ -26,7 +25,6 @@ use Rattle.printing.specs.Printed.{refusal_length}
 use Rattle.reasons.specs.Lines.{behind_lines, first_line, line_of}
 use Rattle.reasons.specs.Reason.{no_tag, said}
 use Rattle.reasons.specs.Sizes.{reason_short, said_length}
-use Rattle.reasons.proofs.Texts.{line_part, all_left}
 use Rattle.answers.specs.declared.Answer.{Answer}
 use Rattle.answers.specs.Answered.{Answered}
 use Rattle.cutback.specs.Limit.{tons, may_stay}
@@ -36,8 +34,10 @@ use Rattle.cutback.specs.Judge.{Verdict, Refused, Cut, again, codes_bad, refuse,
 use Rattle.cutback.proofs.Codes.{good_at}
 use Rattle.cutback.proofs.Lots.{all_small}
 use Rattle.cutback.proofs.Judging.{Accepted, accepted}
-use Rattle.cutting.specs.Told.{grams_of, lots_of, seats, read, verdict, row, rows, status_of, Ends, Exit}
-use Rattle.cutting.proofs.Rows.{row_length}
+use Rattle.writing.specs.Written.{Wrote, written_nothing}
+use Rattle.allotment.specs.Listed.{Listed}
+use Rattle.cutting.specs.Told.{grams_of, lots_of, seats, read, verdict, row, rows}
+use Rattle.cutting.proofs.Rows.{row_length, behind_none, behind_more}
 
 -- more lots than four are never looked at
 pub fewer : (kind metal : List ℕ) (grams : ℕ) (codes : List (List ℕ)) (lots : List ℕ) → length codes ≡ length lots →
@@ -52,22 +52,14 @@ fewer kind metal grams codes lots e = by_test (ltb 4 (length codes)) many (λ t.
         simp (a, b, t, or-true)
 
 -- the parts of the input that the call is given
-module _ (input : List ℕ) (kind metal lines lots : List ℕ) (grams : ℕ) where
-  pub read_so : kind ≡ line_of 0 input → metal ≡ line_of 1 input → grams ≡ grams_of (line_of 2 input) → lines ≡ behind_lines 3 input → lots ≡ take 4 (map lots_of (lines_of lines)) →
-      judge kind metal grams (codes_ahead lines) lots ≡ read input
-  unfolding read
-  read_so a b g l n =
-      let s : lots ≡ take 4 (map lots_of (lines_of (seats input))) = n ∙ ap (λ (t : List ℕ). take 4 (map lots_of (lines_of t))) l in
-      let j : judge kind metal grams (codes_ahead lines) lots ≡ judge (line_of 0 input) (line_of 1 input) (grams_of (line_of 2 input)) (codes_ahead (seats input)) (take 4 (map lots_of (lines_of (seats input)))) =
-      rw (a, b, g, l, s) in
-      j ∙ fewer (line_of 0 input) (line_of 1 input) (grams_of (line_of 2 input)) (codes_ahead (seats input)) (map lots_of (lines_of (seats input)))
-      (length-map (lines_of (seats input)) _ ∙ sym (length-map (lines_of (seats input)) lots_of))
-
-pub first_line_lem : (input : List ℕ) (end : ℕ) → end ≡ 0 + length (first_line (drop 0 input)) → take end input ≡ line_of 0 input
-first_line_lem input end e =
-    let z : end ≡ end - 0 = omega arith in
-    let some : 0 ≤ length input = omega arith in
-    ap (λ n. take n input) z ∙ line_part input 0 0 end (sym (all_left 0 input refl)) some e
+module _ (input kind metal line lines lots one two : List ℕ) (grams : ℕ) where
+  pub read_so : kind ≡ first_line input → one ≡ behind_lines 1 input → metal ≡ first_line one → two ≡ behind_lines 1 one → line ≡ first_line two → lines ≡ behind_lines 1 two →
+      grams ≡ grams_of line → lots ≡ take 4 (map lots_of (lines_of lines)) → judge kind metal grams (codes_ahead lines) lots ≡ read input
+  unfolding read line_of
+  read_so k a m b l s g n =
+      rw (k, m, g, n, l, s, b, a, behind_more 1 2 input refl, behind_more 2 3 input refl, behind_none input)
+      (fewer (first_line input) (first_line (behind_lines 1 input)) (grams_of (first_line (behind_lines 2 input))) (codes_ahead (seats input)) (map lots_of (lines_of (seats input)))
+      (length-map (lines_of (seats input)) _ ∙ sym (length-map (lines_of (seats input)) lots_of)))
 
 -- rows are short
 rows_short : (f : Seat → ℕ) → ((s : Seat) → f s ≤ s.lots) → (codes : List (List ℕ)) (lots : List ℕ) → codes_bad codes ≡ false → lots_bad lots ≡ false →
@@ -188,20 +180,13 @@ said_fits n h =
 pub refusal_fits : (n : ℕ) → Fits w64 n → length (listing_of (Refused01 n 0)) ≤ 128
 refusal_fits n h = omega (arith, refusal_length n 0, digits_length_20 n (omega (arith, h)), digits_length_7 0 (omega arith))
 
--- every status is 0, 1 or 2
-pub small : (v : Verdict) (r : ℕ) → Ends v r → r ≤ 2
-small v r = ⊎_elim (λ e. omega arith) (go v)
-  where
-    go : (w : Verdict) → r ≡ status_of w → r ≤ 2
-    go (Refused n) h = omega arith
-    go (Cut cuts) h = omega arith
+-- what was written stands at the front
+pub listed_so : {s t e x : List ℕ} {r : ℕ} → Wrote 0 s e x r → s ≡ t → length s ≤ length e → Listed t e x r
+listed_so {s} {e = e} {x} {r} w same h =
+    subst (λ (l : List ℕ). Listed l e x r) same (record { buffer = w.whole; size = w.next ∙ zero-add _; room = omega (arith, w.next) })
 
--- and an i32 holds it
-pub held : (k : ℕ) → k ≤ 2 → SFits w32 (pos k)
-held k h = omega arith
+pub lines_so : (input : List ℕ) (n : ℕ) → drop n input ≡ seats input → take (length input - n) (drop n input) ≡ seats input
+lines_so input n e = take_all (length input - n) (drop n input) (omega (arith, length-drop n input)) ∙ e
 
-pub exits : (k : ℕ) → k ≤ 2 → Exit (to_z w32 k)
-exits zero h = omega arith
-exits (suc zero) h = omega arith
-exits (suc (suc zero)) h = omega arith
-exits (suc (suc (suc k))) h = absurd (omega arith)
+pub nothing_listed : (e : List ℕ) → Listed [] e e 0
+nothing_listed e = record { buffer = sym (written_nothing 0 e); size = refl; room = omega arith }

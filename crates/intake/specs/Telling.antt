@@ -31,6 +31,9 @@ put_so {s} {t} {a} {b} {r} w e h =
 pub put_none : {t : List ℕ} (a : List ℕ) → [] ≡ t → Put t a a 0
 put_none a e = subst (λ (x : List ℕ). Put x a a 0) e (record { buffer = sym (written_nothing 0 a); size = refl; room = omega arith })
 
+pub put_same : {s t a b : List ℕ} {r : ℕ} → s ≡ t → Put s a b r → Put t a b r
+put_same {a = a} {b} {r} e p = subst (λ (x : List ℕ). Put x a b r) e p
+
 -- where a call's numbers fit the run, they stand at its front
 pub fits_run : (bs entry exit : List ℕ) (r : Answer) → length bs ≤ length entry → Answered (fitted (length entry) bs) r entry exit →
     (r.number ≡ 0) × (r.length ≡ length bs) × (exit ≡ bs ++ drop (length bs) entry)

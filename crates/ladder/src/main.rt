@@ -8,13 +8,14 @@ ghost use Rattle.std.specs.Prelude.{◌≡◌, true, length, ◌≤◌};
 ghost use Rattle.rules.specs.Text.{bytes};
 ghost use Rattle.days.specs.Lines.{feeds};
 ghost use Rattle.days.specs.Listed.{verdict_of};
+ghost use Rattle.shell.specs.Shell.{number_of};
 ghost use Rattle.intake.specs.Told.{Put, status_by, said_by, Ends, Exit};
 ghost use Rattle.locks.specs.Listing.{listing_by};
 ghost use Rattle.ladder.specs.Sizes.{listing_room};
 
-use intake::Long;
 use listing::put_days;
 use rules::refusal;
+use shell::{Ended, Program, Status, Told};
 use std::process::ExitCode;
 
 // So many bytes of a list are kept: those behind them matter only through their line feeds.
@@ -28,13 +29,11 @@ const LISTING_ROOM: usize = 50_016;
 // A buffer that the line of every refusal fits.
 const SAID_ROOM: usize = 256;
 
-// What a list comes to: a status, and how many bytes of the listing and of the line stand at the front of their buffers.
-#[derive(Clone, Copy)]
-pub struct Told {
-    pub status: u32,
-    pub listed: usize,
-    pub said: usize,
-}
+const PROGRAM: Program<'static> = Program {
+    name: b"ladder",
+    help: b"Usage: ladder [FILE]\nPrints the lock ladder of Articles 17 and 18, day by day, of the list in FILE, or\non standard input where there is no FILE or it is -.\n\n  --help     print this and end\n  --version  print the version and end\n\nThe status is 0 where the list is accepted, 1 where it is refused, and 2\nwhere the words are wrong or a read or a write fails.\n",
+    version: b"ladder 0.11.1\n",
+};
 
 // The listing, the words and the status of a list with these first bytes and so many line feeds in all. Nothing is read or written here.
 fn tell(front: &[u8], total: usize, rungs: &mut [u64], out: &mut [u8], words: &mut [u8]) -> Told
@@ -44,53 +43,38 @@ fn tell(front: &[u8], total: usize, rungs: &mut [u64], out: &mut [u8], words: &m
     requires in_bounds_2 { 256 ≤ length words.old }
     ensures put { Put (listing_by (verdict_of true total front.now)) out.old out.new result.listed }
     ensures put_2 { Put (said_by (bytes "ladder") (verdict_of true total front.now)) words.old words.new result.said }
-    ensures status_value { result.status ≡ status_by (verdict_of true total front.now) }
+    ensures status_value { number_of result.status ≡ status_by (verdict_of true total front.now) }
 {
     let found = locks::ladder_in(front, total, rungs);
     if found.number == refusal::ACCEPTED {
         let count = found.length as usize;
         return Told {
-            status: shell::ACCEPTED,
+            status: Status::Accepted,
             listed: put_days(out, &rungs[..count]),
             said: 0,
         };
     }
-    Told {
-        status: shell::REFUSED,
-        listed: printing::put_refusal(out, found.number, found.place),
-        said: reasons::put_said(words, b"ladder", found.number, found.place, reasons::NO_TAG),
-    }
+    intake::tell_refused(b"ladder", found.number, found.place, out, words)
 }
 
 // Tells of a list.
-fn answer(rt: &HostRuntime, front: &[u8], total: usize) -> u32
+fn answer(rt: &HostRuntime, front: &[u8], total: usize) -> Ended
     requires { feeds front.now ≤ total }
-    ensures { Ends (verdict_of true total front.now) result }
+    ensures { Ends (verdict_of true total front.now) result.0 }
 {
     let mut rungs = [0u64; MOST_DAYS];
     let mut out = [0u8; LISTING_ROOM];
     let mut words = [0u8; SAID_ROOM];
     let told = tell(front, total, &mut rungs, &mut out, &mut words);
-    let listed = told.listed;
-    let said = told.said;
-    shell::finish(rt, b"ladder", &out[..listed], &words[..said], told.status)
+    PROGRAM.finish_told(rt, &out, &words, told)
 }
 
 // The status is 0, 1 or 2.
 pub fn frundavel_main(rt: &HostRuntime) -> i32
     ensures { Exit result }
 {
-    let mut buffer = [0u8; FRONT];
-    match intake::begin(
-        rt,
-        b"ladder",
-        b"Usage: ladder [FILE]\nPrints the lock ladder of Articles 17 and 18, day by day, of the list in FILE, or\non standard input where there is no FILE or it is -.\n\n  --help     print this and end\n  --version  print the version and end\n\nThe status is 0 where the list is accepted, 1 where it is refused, and 2\nwhere the words are wrong or a read or a write fails.\n",
-        b"ladder 0.11.1\n",
-        &mut buffer,
-    ) {
-        Long::Bytes { front, total } => answer(rt, &buffer[..front], total) as i32,
-        Long::Ended(status) => status as i32,
-    }
+    let ended = intake::run::<FRONT, _>(rt, &PROGRAM, |front, total| answer(rt, front, total));
+    ended.0 as i32
 }
 
 // The runtime is what the program has of the system, and its status is that of the process.

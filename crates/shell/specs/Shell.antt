@@ -1,6 +1,6 @@
 -- What a program has from its shell, and what it ends with.
 -- Assumes nothing.
-use Rattle.std.specs.Prelude.{ℕ, ◌-◌, ◌≤◌, ◌<◌, ◌≡◌, ◌⊎◌, Bool, cond, List, length, take, get_or, eqb, ltb, Result, IfOk}
+use Rattle.std.specs.Prelude.{ℕ, ◌-◌, ◌≤◌, ◌<◌, ◌≡◌, ◌⊎◌, Bool, cond, List, length, take, get_or, eqb, ltb, Result, Err, IfOk, MatchResult}
 use Prim.Native.Char.{code}
 use Rattle.command.specs.declared.Word.{Word}
 use Rattle.command.specs.declared.Seen.{Seen}
@@ -8,13 +8,10 @@ use Rattle.command.specs.Asked.{settled_of, meant_of, step_of}
 use Rattle.command.specs.declared.Asked.{Asked}
 use Rattle.command.specs.declared.Asked.TheVariants.{Nothing, Named, Usage, Number, Unknown, Second}
 use Rattle.command.specs.declared.Asked.TheVariants.{Input as StandardInput}
-use Rattle.shell.specs.declared.Got.{Got}
-use Rattle.shell.specs.declared.Got.TheVariants.{Read, Failed}
 use Rattle.shell.specs.declared.Opened.{Opened}
-use Rattle.shell.specs.declared.Opened.TheVariants.{File}
-use Rattle.shell.specs.declared.Opened.TheVariants.{Ended as OpenEnded}
-use Rattle.shell.specs.declared.Input.{Input}
-use Rattle.shell.specs.declared.Input.TheVariants.{Bytes, Ended}
+use Rattle.shell.specs.declared.Ended.{Ended}
+use Rattle.shell.specs.declared.Status.{Status}
+use Rattle.shell.specs.declared.Status.TheVariants.{Accepted, Refused, Failed}
 
 -- the statuses: accepted, refused, and that the words, the input or the output were wrong
 abbrev pub accepted : ℕ
@@ -26,6 +23,11 @@ refused = 1
 abbrev pub failed : ℕ
 failed = 2
 
+abbrev pub number_of : Status → ℕ
+number_of Accepted = accepted
+number_of Refused = refused
+number_of Failed = failed
+
 -- one read into what is left of a buffer behind `done`: an error, or at most as many bytes as are left; those before stay
 pub record More {E : Type 0} (done : ℕ) (entry exit : List ℕ) (r : Result ℕ E) : Type 0 where
   pub count : IfOk r (λ n. n ≤ length entry - done)
@@ -33,19 +35,16 @@ pub record More {E : Type 0} (done : ℕ) (entry exit : List ℕ) (r : Result �
   pub size : length exit ≡ length entry
 
 -- what was read fits the buffer
-abbrev pub Fitting : Got → ℕ → Type 0
-Fitting (Read n) room = n ≤ room
-Fitting (Failed why) room = Unit
+abbrev pub Fitting : {E : Type 0} → Result ℕ E → ℕ → Type 0
+Fitting r room = IfOk r (λ n. n ≤ room)
 
 -- what came from an input fits the buffer; a program whose input fails ends with 2
-abbrev pub Taken : Input → ℕ → Type 0
-Taken (Bytes n) room = n ≤ room
-Taken (Ended status) room = status ≡ failed
+abbrev pub Taken : Result ℕ Ended → ℕ → Type 0
+Taken r room = MatchResult r (λ n. n ≤ room) (λ ended. ended.0 ≡ failed)
 
 -- a file was opened whose name fits its buffer; a program whose file cannot be opened ends with 2
-abbrev pub Opens : Opened → ℕ → Type 0
-Opens (File file name) room = name ≤ room
-Opens (OpenEnded status) room = status ≡ failed
+abbrev pub Opens : Result Opened Ended → ℕ → Type 0
+Opens r room = MatchResult r (λ opened. opened.name ≤ room) (λ ended. ended.0 ≡ failed)
 
 -- what is asked for behind the word at place i, whatever it is
 abbrev pub Took : Seen → ℕ → Seen → Type 0
@@ -65,19 +64,18 @@ Among first count (Unknown i) = Within first count i
 Among first count (Second i) = Within first count i
 
 -- a program that prints ends with 0; or with 2, where that could not be written
-abbrev pub Printed : Input → Type 0
-Printed (Bytes n) = ⊥
-Printed (Ended status) = (status ≡ failed) ⊎ (status ≡ accepted)
+abbrev pub Printed : Result ℕ Ended → Type 0
+Printed r = MatchResult r (λ n. ⊥) (λ ended. (ended.0 ≡ failed) ⊎ (ended.0 ≡ accepted))
 
 -- what a program begins with, by what its words ask for
-abbrev pub Begun : Asked → Input → ℕ → Type 0
+abbrev pub Begun : Asked → Result ℕ Ended → ℕ → Type 0
 Begun Nothing r room = Taken r room
 Begun StandardInput r room = Taken r room
 Begun (Named i) r room = Taken r room
 Begun Usage r room = Printed r
 Begun Number r room = Printed r
-Begun (Unknown i) r room = r ≡ Ended failed
-Begun (Second i) r room = r ≡ Ended failed
+Begun (Unknown i) r room = r ≡ Err (record { 0 = failed })
+Begun (Second i) r room = r ≡ Err (record { 0 = failed })
 
 -- words that ask for no input leave the buffer as it was
 abbrev pub Untouched : Asked → List ℕ → List ℕ → Type 0
@@ -90,9 +88,8 @@ Untouched (Unknown i) entry exit = exit ≡ entry
 Untouched (Second i) entry exit = exit ≡ entry
 
 -- and whatever they ask for
-abbrev pub Came : Input → ℕ → Type 0
-Came (Bytes n) room = n ≤ room
-Came (Ended status) room = (status ≡ failed) ⊎ (status ≡ accepted)
+abbrev pub Came : Result ℕ Ended → ℕ → Type 0
+Came r room = MatchResult r (λ n. n ≤ room) (λ ended. (ended.0 ≡ failed) ⊎ (ended.0 ≡ accepted))
 
 -- the status of a program whose output was written, or was not
 abbrev pub ended_by : Bool → ℕ → ℕ

@@ -1,12 +1,9 @@
--- The bytes before i are done, and the others are as they were.
+-- The bytes before this one are done, and the others are as they were.
 -- Assumes nothing.
-use Rattle.std.proofs.Common.{length, ◌-◌, ◌≡◌, ◌≤◌}
+use Rattle.std.proofs.Common.{◌≡◌}
 use Rattle.laws.specs.Filled.{filled}
 use Rattle.shell.specs.Shell.{visible_at}
 use Rattle.shell.proofs.make_visible.Given as goal
 
-abbrev pub invariant-loop-i : goal.invariant-loop-i
-invariant-loop-i l = (l.i ≤ length l.name) × (length l.name ≡ length l.initial.name) × (l.name ≡ filled (visible_at l.initial.name) l.i l.initial.name)
-
-abbrev pub decreases-loop-i : goal.decreases-loop-i
-decreases-loop-i l = length l.initial.name - l.i
+abbrev pub invariant-loop-byte : goal.invariant-loop-byte
+invariant-loop-byte l = l.name ≡ filled (visible_at l.initial.name) l.byte-index l.initial.name
