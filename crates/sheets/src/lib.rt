@@ -5,7 +5,7 @@ mod judging;
 mod line;
 mod putting;
 mod reading;
-pub mod refusal;
+mod refusal;
 mod shown;
 mod sizing;
 mod spelling;
