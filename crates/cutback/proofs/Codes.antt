@@ -1,6 +1,6 @@
 -- The first of some codes: what it means for all of them that it is malformed, stands again, or neither; and the keys of the first four.
 -- Assumes nothing.
-use Prim.Native.Nat.{ℕ, zero, suc, ◌+◌, ◌-◌, ◌<◌, ◌≤◌, min}
+use Prim.Native.Nat.{ℕ, zero, suc, ◌+◌, ◌-◌, ◌^◌, ◌<◌, ◌≤◌, min}
 use mathlib.Core.Path.{◌≡◌, refl, sym, ap, ◌∙◌}
 use mathlib.Core.List.{List, [], ◌∷◌, ◌++◌, map, append_assoc, append-nil}
 use mathlib.Core.Bool.{true, false, not, ◌||◌, false≢true}
@@ -14,7 +14,7 @@ use Rattle.laws.specs.ByTest.{by_test, not_either}
 use Rattle.laws.specs.Indices.{get_d_in}
 use Rattle.cutback.specs.Judge.{again, codes_bad}
 use Rattle.laws.specs.Keys.{key_of}
-use Rattle.cutback.specs.Walk.{kept, Counted}
+use Rattle.cutback.specs.Walk.{kept, Sound}
 
 module _ (c d : List ℕ) (all rest : List (List ℕ)) (e : all ≡ d ∷ rest) where
   pub again_here : same c d ≡ true → again c all ≡ true
@@ -58,31 +58,36 @@ pub record Passed (all rest : List (List ℕ)) (keys : List ℕ) (count : ℕ) :
   pub room : length keys ≡ 4
   pub bad : codes_bad all ≡ codes_bad rest
   pub counted : count + length rest ≡ length all
+  pub fits : 0 < count → length all < 2 ^ 64
   pub keyed : take 4 (map key_of all) ≡ take (min 4 count) keys ++ take (4 - count) (map key_of rest)
 
 pub passed_none : (all : List (List ℕ)) (keys : List ℕ) → length keys ≡ 4 → Passed all all keys 0
-passed_none all keys h = record { room = h; bad = refl; counted = omega arith; keyed = refl }
+passed_none all keys h = record { room = h; bad = refl; counted = omega arith; fits = λ h. absurd (omega arith); keyed = refl }
 
 module _ (all rest : List (List ℕ)) (keys : List ℕ) (count : ℕ) (p : Passed all rest keys count) where
-  pub passed_all : rest ≡ [] → Counted all keys (record { bad = false; count = count })
+  pub passed_all : rest ≡ [] → Sound all keys count
   passed_all e =
       record {
-        told = sym (p.bad ∙ ap codes_bad e);
-        count = λ f. omega (arith, p.counted, ap length e);
-        keyed = λ f. sym (p.keyed ∙ ap (λ (l : List (List ℕ)). take (min 4 count) keys ++ take (4 - count) (map key_of l)) e ∙ ap (λ (l : List ℕ). take (min 4 count) keys ++ l) (take-nil (4 - count)) ∙ append-nil (take (min 4 count) keys));
+        good = p.bad ∙ ap codes_bad e;
+        counted = omega (arith, p.counted, ap length e);
+        keyed = sym (p.keyed ∙ ap (λ (l : List (List ℕ)). take (min 4 count) keys ++ take (4 - count) (map key_of l)) e ∙ ap (λ (l : List ℕ). take (min 4 count) keys ++ l) (take-nil (4 - count)) ∙ append-nil (take (min 4 count) keys));
       }
 
-  -- a walk that ends with a bad code
-  pub passed_bad : (n : ℕ) (left : List ℕ) → codes_bad rest ≡ true → Counted all left (record { bad = true; count = n })
-  passed_bad n left h = record { told = sym (p.bad ∙ h); count = λ f. absurd (false≢true (sym f)); keyed = λ f. absurd (false≢true (sym f)) }
+  -- the number of all fits, since that of the rest did when there was no code before
+  passed_fits : length rest < 2 ^ 64 → length all < 2 ^ 64
+  passed_fits h = by_test (ltb 0 count) (λ e. p.fits (ltb-true 0 count e)) (λ e. let l = ltb-false 0 count e in omega (arith, p.counted))
 
-  pub passed_more : (d : List ℕ) (next : List (List ℕ)) (key : ℕ) → rest ≡ d ∷ next → is_code d ≡ true → again d next ≡ false → key_of d ≡ key →
+  pub counts_on : (d : List ℕ) (next : List (List ℕ)) → rest ≡ d ∷ next → length rest < 2 ^ 64 → count + 1 < 2 ^ 64
+  counts_on d next e h = omega (arith, p.counted, passed_fits h, ap length e)
+
+  pub passed_more : (d : List ℕ) (next : List (List ℕ)) (key : ℕ) → rest ≡ d ∷ next → is_code d ≡ true → again d next ≡ false → key_of d ≡ key → length rest < 2 ^ 64 →
       Passed all next (kept count key keys) (count + 1)
-  passed_more d next key e h k f =
+  passed_more d next key e h k f few =
       record {
         room = kept_room;
         bad = p.bad ∙ good_here d rest next e h k;
         counted = omega (arith, p.counted, ap length e);
+        fits = λ _. passed_fits few;
         keyed =
             keys_step count key keys (map key_of next) (take 4 (map key_of all)) p.room
             (p.keyed ∙ ap (λ (l : List (List ℕ)). take (min 4 count) keys ++ take (4 - count) (map key_of l)) e ∙ ap (λ (x : ℕ). take (min 4 count) keys ++ take (4 - count) (x ∷ map key_of next)) f);

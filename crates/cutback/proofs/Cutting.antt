@@ -1,4 +1,4 @@
--- What a call answers, from what its parts tell: the codes as they were counted, the number before 44, the lots and the places.
+-- What is judged of a call, from what its parts tell: the codes as they were counted, the rule before 44, and the lots.
 -- Assumes nothing.
 use Prim.Native.Nat.{ℕ, ◌-◌, ◌*◌, ◌/◌, ◌≤◌, ◌<◌, min}
 use mathlib.Core.Path.{◌≡◌, refl, sym, ap, ap₂, subst, ◌∙◌}
@@ -8,28 +8,26 @@ use native.Mathlib.Omega.{arith}
 use lib.ListN.{length, take, drop}
 use lib.Dec.{ltb, eqb}
 use borrow.Author.Tests.{le-ltb, eqb-false, ltb-false}
+use Rattle.std.specs.Prelude.{Option, Result, Ok, Err}
+use Rattle.cutback.specs.declared.refusal.CutRule.{CutRule}
 use Rattle.rules.specs.Refusal as refusal
 use Rattle.rules.specs.Text.{bytes}
 use Rattle.rules.specs.Codes.{same}
 use Rattle.rules.specs.Answer.{fitted}
-use Rattle.rules.specs.Answer.{refused as refused01}
 use Rattle.rules.specs.Division.{sum_of}
 use Rattle.laws.specs.ByTest.{by_test, not_either}
 use Rattle.laws.specs.Sums.{up_to}
 use Rattle.laws.specs.Indices.{length-map_up_to}
 use Rattle.laws.specs.Filled.{filled}
-use Rattle.answers.specs.declared.Answer.{Answer}
 use Rattle.answers.specs.Answered.{Answered}
-use Rattle.answers.specs.Answering.{refused_so, too_small}
-use Rattle.cutback.specs.declared.walk.Read.{Read}
-use Rattle.cutback.specs.declared.seats.Total.{Total}
-use Rattle.cutback.specs.Limit.{by_metal, tons, may_stay}
-use Rattle.cutback.specs.Judge.{Verdict, Refused, Cut, grams_bad, codes_bad, count_bad, judge, answer_of}
-use Rattle.cutback.specs.Walk.{Counted, early}
-use Rattle.cutback.specs.Keyed.{cut_at, Held, Summed}
+use Rattle.answers.specs.Answering.{too_small}
+use Rattle.cutback.specs.Limit.{by_metal, tons, some_tons, may_stay}
+use Rattle.cutback.specs.Judge.{Refused, Cut, lots_bad, grams_bad, codes_bad, count_bad, judge}
+use Rattle.cutback.specs.Walk.{Counted, Sound, Judged, early}
+use Rattle.cutback.specs.Keyed.{cut_at, Held}
 use Rattle.cutback.proofs.Codes.{good_at, key_at}
 use Rattle.cutback.proofs.Lots.{all_small}
-use Rattle.cutback.proofs.Judging.{counted_early, stops, Clear, all_clear, too_large, too_few, cut}
+use Rattle.cutback.proofs.Judging.{Agrees, agrees, Clear, too_large, too_few, cut}
 use Rattle.cutback.proofs.Seating.{InOrder, seated}
 
 -- no limit is above 80 tons
@@ -63,68 +61,61 @@ module _ (keys lots : List ℕ) (over : ℕ) (entry : List ℕ) where
       fills : filled (cut_at keys lots over) (length lots) entry ≡ cuts ++ drop (length cuts) entry
       fills = ap (λ n. cuts ++ drop n entry) (sym size)
 
--- the rest of a call
-module _ (kind metal : List ℕ) (grams : ℕ) (codes : List (List ℕ)) (lots keys : List ℕ) (limit number : ℕ) (read : Read) (l : limit ≡ tons kind metal) (c : Counted codes keys read)
-    (n : number ≡ early limit grams read.bad read.count (length lots)) where
-  abbrev verdict : Verdict
-  verdict = judge kind metal grams codes lots
+-- a call whose codes and metal are as they should be
+pub record Early (kind metal : List ℕ) (grams : ℕ) (codes : List (List ℕ)) (lots keys : List ℕ) (tons_so count : ℕ) : Type 0 where
+  pub clear : Clear (eqb (tons kind metal) 0) (grams_bad grams) (codes_bad codes) (ltb (length codes) (length lots)) (count_bad (length codes))
+  pub limit : tons_so ≡ tons kind metal
+  pub sound : Sound codes keys count
 
-  told : number ≡ early (tons kind metal) grams (codes_bad codes) (length codes) (length lots)
-  told = n ∙ ap (λ t. early t grams read.bad read.count (length lots)) l ∙ counted_early kind metal grams codes lots read.bad read.count c.told c.count
+module _ (kind metal : List ℕ) (grams : ℕ) (codes : List (List ℕ)) (lots keys : List ℕ) (read : Option ℕ) (t : Option ℕ) (c : Counted codes keys read) (l : t ≡ some_tons (tons kind metal))
+    (made : Result (ℕ × ℕ) CutRule) (m : made ≡ early t grams read (length lots)) where
+  agreed : Agrees kind metal grams codes lots (judge kind metal grams codes lots) read made
+  agreed = subst (Agrees kind metal grams codes lots (judge kind metal grams codes lots) read) (ap (λ x. early x grams read (length lots)) (sym l) ∙ sym m) (agrees kind metal grams codes lots keys read c)
 
-  answered : (v : Verdict) (entry exit : List ℕ) (r : Answer) → verdict ≡ v → Answered (answer_of (length entry) v) r entry exit → Answered (answer_of (length entry) verdict) r entry exit
-  answered v entry exit r e h = subst (λ (w : Verdict). Answered (answer_of (length entry) w) r entry exit) (sym e) h
+  -- a rule that is broken before 44
+  pub stopped : (rule : CutRule) → made ≡ Err rule → (r : Result ℕ CutRule) → r ≡ Err rule → Judged kind metal grams codes lots keys r
+  stopped rule e r f =
+      subst (Judged kind metal grams codes lots keys) (sym f) (subst (Agrees kind metal grams codes lots (judge kind metal grams codes lots) read) e agreed)
 
-  refuses : (k : ℕ) (entry : List ℕ) (r : Answer) → verdict ≡ Refused k → r ≡ record { number = k; place = 0; length = 0 } → Answered (answer_of (length entry) verdict) r entry entry
-  refuses k entry r e f = answered (Refused k) entry entry r e (subst (λ (x : Answer). Answered (refused01 k 0) x entry entry) (sym f) (refused_so k 0 entry))
+  pub earlier : (limit count : ℕ) → made ≡ Ok (limit, count) → Early kind metal grams codes lots keys limit count
+  earlier limit count e =
+      let a = subst (Agrees kind metal grams codes lots (judge kind metal grams codes lots) read) e agreed in
+      record { clear = a.0; limit = a.1; sound = subst (Counted codes keys) a.2 c }
 
-  pub stopped : (entry : List ℕ) (r : Answer) → (number ≡ 0 → ⊥) → r ≡ record { number = number; place = 0; length = 0 } → Answered (answer_of (length entry) verdict) r entry entry
-  stopped entry r h f = refuses number entry r (stops kind metal grams codes lots number told h) f
+module _ (kind metal : List ℕ) (grams : ℕ) (codes : List (List ℕ)) (lots keys : List ℕ) (limit count : ℕ) (p : Early kind metal grams codes lots keys limit count) where
+  codes_few : length codes ≤ 4
+  codes_few = ltb-false 4 (length codes) (not_either (eqb (length codes) 0) (ltb 4 (length codes)) p.clear.count).1
 
-  module _ (z : number ≡ 0) where
-    zero_told : 0 ≡ early (tons kind metal) grams (codes_bad codes) (length codes) (length lots)
-    zero_told = sym z ∙ told
+  pub lots_few : length lots ≤ 4
+  lots_few = omega (arith, ltb-false (length codes) (length lots) p.clear.coded, codes_few)
 
-    clear : Clear (eqb (tons kind metal) 0) (grams_bad grams) (codes_bad codes) (ltb (length codes) (length lots)) (count_bad (length codes))
-    clear = all_clear kind metal grams codes lots zero_told
+  pub grams_some : 0 < grams
+  grams_some = let h = eqb-false grams 0 (not_either (eqb grams 0) (ltb 1_000_000 grams) p.clear.grams).0 in omega arith
 
-    pub lots_few : length lots ≤ length codes
-    lots_few = ltb-false (length codes) (length lots) clear.coded
+  pub large : lots_bad lots ≡ true → judge kind metal grams codes lots ≡ Refused 44
+  large h = too_large kind metal grams codes lots p.clear h
 
-    pub codes_few : length codes ≤ 4
-    codes_few = ltb-false 4 (length codes) (not_either (eqb (length codes) 0) (ltb 4 (length codes)) clear.count).1
+  pub missing : length lots < count → judge kind metal grams codes lots ≡ Refused 44
+  missing h = too_few kind metal grams codes lots p.clear (omega (arith, p.sound.counted))
 
-    pub grams_some : 0 < grams
-    grams_some = let h = eqb-false grams 0 (not_either (eqb grams 0) (ltb 1_000_000 grams) clear.grams).0 in omega arith
+  module _ (h : lots_bad lots ≡ false) (k : count ≤ length lots) where
+    even : length codes ≡ length lots
+    even = omega (arith, ltb-false (length codes) (length lots) p.clear.coded, p.sound.counted)
 
-    pub counted : read.count ≡ length codes
-    counted = c.count (c.told ∙ clear.codes)
+    pub held_so : length keys ≡ 4 → Held keys lots
+    held_so l = record { few = lots_few; keyed = omega (arith, lots_few); small = all_small lots h }
 
-    module _ (held : Total) (s : Summed lots held) where
-      pub large : (entry : List ℕ) (r : Answer) → held.bad ≡ true → r ≡ record { number = 44; place = 0; length = 0 } → Answered (answer_of (length entry) verdict) r entry entry
-      large entry r h f = refuses 44 entry r (too_large kind metal grams codes lots zero_told (sym s.told ∙ h)) f
+    order : InOrder codes lots keys
+    order =
+        record {
+          even = even;
+          coded = λ j l. good_at codes p.clear.codes j (omega (arith, even));
+          keyed = λ j l. key_at codes keys codes_few (ap (λ m. take (min 4 m) keys) (sym p.sound.counted) ∙ p.sound.keyed) j (omega (arith, even));
+        }
 
-      pub missing : (entry : List ℕ) (r : Answer) → length lots < read.count → r ≡ record { number = 44; place = 0; length = 0 } → Answered (answer_of (length entry) verdict) r entry entry
-      missing entry r h f = refuses 44 entry r (too_few kind metal grams codes lots zero_told (omega (arith, counted))) f
-
-      module _ (b : held.bad ≡ false) (k : read.count ≤ length lots) where
-        even : length codes ≡ length lots
-        even = omega (arith, lots_few, counted)
-
-        pub held_so : length keys ≡ 4 → Held keys lots
-        held_so h = record { few = omega (arith, even, codes_few); keyed = omega (arith, even, codes_few); small = all_small lots (sym s.told ∙ b) }
-
-        order : InOrder codes lots keys
-        order =
-            record {
-              even = even;
-              coded = λ j h. good_at codes clear.codes j (omega (arith, even));
-              keyed = λ j h. key_at codes keys codes_few (ap (λ m. take (min 4 m) keys) (sym counted) ∙ c.keyed (c.told ∙ clear.codes)) j (omega (arith, even));
-            }
-
-        pub shown : (entry exit : List ℕ) (r : Answer) (over : ℕ) → over ≡ held.sum - limit * 1_000_000 / grams →
-            Answered (fitted (length entry) (map (cut_at keys lots over) (up_to (length lots)))) r entry exit → Answered (answer_of (length entry) verdict) r entry exit
-        shown entry exit r over e h =
-            let o : over ≡ sum_of (λ x. x) lots - may_stay kind metal grams = e ∙ ap₂ (λ x y. x - y * 1_000_000 / grams) (s.whole b) l in
-            answered (Cut _) entry exit r (cut kind metal grams codes lots zero_told (sym s.told ∙ b) (omega (arith, even)) ∙ ap Cut (seated codes lots keys order (may_stay kind metal grams)))
-            (subst (λ x. Answered (fitted (length entry) (map (cut_at keys lots x) (up_to (length lots)))) r entry exit) o h)
+    pub shown : (sum over : ℕ) → sum ≡ sum_of (λ n. n) lots → over ≡ sum - limit * 1_000_000 / grams →
+        judge kind metal grams codes lots ≡ Cut (map (cut_at keys lots over) (up_to (length lots)))
+    shown sum over s e =
+        let o : over ≡ sum_of (λ x. x) lots - may_stay kind metal grams = e ∙ ap₂ (λ x y. x - y * 1_000_000 / grams) s p.limit in
+        cut kind metal grams codes lots p.clear h (omega (arith, even)) ∙ ap Cut (seated codes lots keys order (may_stay kind metal grams))
+        ∙ ap (λ x. Cut (map (cut_at keys lots x) (up_to (length lots)))) (sym o)

@@ -1,18 +1,20 @@
 -- The order of the refusals: the first number that is not 0 is the verdict, and where it is 0 the lots decide.
 -- Assumes nothing.
 use Prim.Native.Nat.{ℕ, ◌≤◌, ◌<◌}
-use mathlib.Core.Path.{◌≡◌, refl, sym, ap, ◌∙◌}
+use mathlib.Core.Path.{◌≡◌, refl, sym, ◌∙◌}
 use mathlib.Core.List.{List}
 use mathlib.Core.Bool.{Bool, true, false, cond, ◌||◌, or-true}
 use native.Mathlib.Omega.{arith}
 use lib.ListN.{length}
+use Rattle.std.specs.Prelude.{Option, Some, None, Result, Ok, Err}
 use lib.Dec.{ltb, eqb}
 use borrow.Author.Tests.{lt-ltb, le-ltb, ne_eqb, eqb-true, eqb-false, ltb-true, ltb-false}
 use Rattle.laws.specs.ByTest.{by_test, not_either}
-use Rattle.cutback.specs.Limit.{tons, may_stay}
+use Rattle.cutback.specs.Limit.{tons, some_tons, may_stay}
 use Rattle.cutback.specs.Seats.{seats_of, cuts_of}
-use Rattle.cutback.specs.Judge.{Verdict, Refused, Cut, refuse, grams_bad, codes_bad, count_bad, lots_bad, judge}
-use Rattle.cutback.specs.Walk.{early}
+use Rattle.cutback.specs.Judge.{Verdict, Refused, Cut, refuse, grams_bad, codes_bad, count_bad, lots_bad, number_of, judge}
+use Rattle.cutback.specs.declared.refusal.CutRule.{CutRule}
+use Rattle.cutback.specs.Walk.{Counted, early}
 
 abbrev first : Bool → Bool → Bool → Bool → Bool → ℕ
 first a b c d e = cond a 40 (cond b 41 (cond c 42 (cond d 42 (cond e 43 0))))
@@ -43,7 +45,7 @@ clear false false false false false h = record { known = refl; grams = refl; cod
 
 module _ (kind metal : List ℕ) (grams : ℕ) (codes : List (List ℕ)) (lots : List ℕ) where
   abbrev number : ℕ
-  number = early (tons kind metal) grams (codes_bad codes) (length codes) (length lots)
+  number = first (eqb (tons kind metal) 0) (grams_bad grams) (codes_bad codes) (ltb (length codes) (length lots)) (count_bad (length codes))
 
   abbrev last : Verdict
   last = refuse 44 (lots_bad lots || ltb (length lots) (length codes)) (Cut (cuts_of (may_stay kind metal grams) (seats_of codes lots)))
@@ -52,24 +54,39 @@ module _ (kind metal : List ℕ) (grams : ℕ) (codes : List (List ℕ)) (lots :
   unfolding judge
   by_number = chain (eqb (tons kind metal) 0) (grams_bad grams) (codes_bad codes) (ltb (length codes) (length lots)) (count_bad (length codes)) last
 
-  -- the number as the walk tells it
-  pub counted_early : (bad : Bool) (count : ℕ) → bad ≡ codes_bad codes → (bad ≡ false → count ≡ length codes) → early (tons kind metal) grams bad count (length lots) ≡ number
-  counted_early true count e h = ap (λ (b : Bool). early (tons kind metal) grams b count (length lots)) e ∙ same
-    where
-      same : early (tons kind metal) grams (codes_bad codes) count (length lots) ≡ number
-      same = rw (← e)
-  counted_early false count e h =
-      ap (λ (b : Bool). early (tons kind metal) grams b count (length lots)) e ∙ ap (λ n. early (tons kind metal) grams (codes_bad codes) n (length lots)) (h refl)
+  -- a rule that is broken before 44 is the verdict's, and where none is all is clear
+  abbrev pub Agrees : Verdict → Option ℕ → Result (ℕ × ℕ) CutRule → Type 0
+  Agrees v read (Err rule) = v ≡ Refused (number_of rule)
+  Agrees v read (Ok p) =
+      Clear (eqb (tons kind metal) 0) (grams_bad grams) (codes_bad codes) (ltb (length codes) (length lots)) (count_bad (length codes)) × (p.0 ≡ tons kind metal) × (read ≡ Some p.1)
 
-  pub stops : (n : ℕ) → n ≡ number → (n ≡ 0 → ⊥) → judge kind metal grams codes lots ≡ Refused n
+  abbrev opened : Verdict
+  opened =
+      refuse 40 (eqb (tons kind metal) 0) (refuse 41 (grams_bad grams) (refuse 42 (codes_bad codes || ltb (length codes) (length lots)) (refuse 43 (count_bad (length codes)) last)))
+
+  is_opened : judge kind metal grams codes lots ≡ opened
+  unfolding judge
+  is_opened = refl
+
+  agrees_opened : (keys : List ℕ) (read : Option ℕ) → Counted codes keys read → Agrees opened read (early (some_tons (tons kind metal)) grams read (length lots))
+  agrees_opened keys None h = by_test (eqb (tons kind metal) 0) (λ e. rw e refl) (λ e. by_test (grams_bad grams) (λ g. rw (e, g) refl) (λ g. rw (e, g, h) refl))
+  agrees_opened keys (Some count) h =
+      by_test (eqb (tons kind metal) 0) (λ e. rw e refl) (λ e.
+      by_test (grams_bad grams) (λ g. rw (e, g) refl) (λ g.
+      by_test (ltb (length codes) (length lots)) (λ l. rw (e, g, h.counted, h.good, l) refl) (λ l.
+      by_test (count_bad (length codes)) (λ n. rw (e, g, h.counted, h.good, l, n) refl)
+      (λ n. rw (e, g, h.counted, l, n) (record { known = e; grams = g; codes = h.good; coded = l; count = n }, refl, refl)))))
+
+  pub agrees : (keys : List ℕ) (read : Option ℕ) → Counted codes keys read → Agrees (judge kind metal grams codes lots) read (early (some_tons (tons kind metal)) grams read (length lots))
+  agrees keys read h = rw is_opened (agrees_opened keys read h)
+
+  stops : (n : ℕ) → n ≡ number → (n ≡ 0 → ⊥) → judge kind metal grams codes lots ≡ Refused n
   stops n e h = by_number ∙ rw (← e, ne_eqb n 0 h)
 
-  module _ (e : 0 ≡ number) where
-    pub all_clear : Clear (eqb (tons kind metal) 0) (grams_bad grams) (codes_bad codes) (ltb (length codes) (length lots)) (count_bad (length codes))
-    all_clear = clear _ _ _ _ _ (sym e)
-
+  module _ (c : Clear (eqb (tons kind metal) 0) (grams_bad grams) (codes_bad codes) (ltb (length codes) (length lots)) (count_bad (length codes))) where
     goes : judge kind metal grams codes lots ≡ last
-    goes = by_number ∙ rw (← e)
+    unfolding judge
+    goes = rw (c.known, c.grams, c.codes, c.coded, c.count)
 
     pub too_large : lots_bad lots ≡ true → judge kind metal grams codes lots ≡ Refused 44
     too_large h = goes ∙ rw h
@@ -97,23 +114,25 @@ module _ (kind metal : List ℕ) (grams : ℕ) (codes : List (List ℕ)) (lots c
       by_test (eqb (number kind metal grams codes lots) 0) (λ e. eqb-true (number kind metal grams codes lots) 0 e)
       (λ e. absurd (no_refusal (number kind metal grams codes lots) (stops kind metal grams codes lots (number kind metal grams codes lots) refl (eqb-false (number kind metal grams codes lots) 0 e))))
 
+  all_clear : Clear (eqb (tons kind metal) 0) (grams_bad grams) (codes_bad codes) (ltb (length codes) (length lots)) (count_bad (length codes))
+  all_clear = clear _ _ _ _ _ none_early
+
   lots_fine : lots_bad lots ≡ false
-  lots_fine = by_test (lots_bad lots) (λ e. absurd (no_refusal 44 (too_large kind metal grams codes lots (sym none_early) e))) (λ e. e)
+  lots_fine = by_test (lots_bad lots) (λ e. absurd (no_refusal 44 (too_large kind metal grams codes lots all_clear e))) (λ e. e)
 
   enough : length codes ≤ length lots
   enough =
-      by_test (ltb (length lots) (length codes)) (λ e. absurd (no_refusal 44 (too_few kind metal grams codes lots (sym none_early) (ltb-true (length lots) (length codes) e))))
+      by_test (ltb (length lots) (length codes)) (λ e. absurd (no_refusal 44 (too_few kind metal grams codes lots all_clear (ltb-true (length lots) (length codes) e))))
       (λ e. ltb-false (length lots) (length codes) e)
 
   pub accepted : Accepted kind metal grams codes lots cuts
   accepted =
-      let c = all_clear kind metal grams codes lots (sym none_early) in
       record {
-        clear = c;
+        clear = all_clear;
         lots_good = lots_fine;
-        even = omega (arith, enough, ltb-false (length codes) (length lots) c.coded);
-        few = ltb-false 4 (length codes) (not_either (eqb (length codes) 0) (ltb 4 (length codes)) c.count).1;
-        cut_so = same_cuts (sym h ∙ cut kind metal grams codes lots (sym none_early) lots_fine enough);
+        even = omega (arith, enough, ltb-false (length codes) (length lots) all_clear.coded);
+        few = ltb-false 4 (length codes) (not_either (eqb (length codes) 0) (ltb 4 (length codes)) all_clear.count).1;
+        cut_so = same_cuts (sym h ∙ cut kind metal grams codes lots all_clear lots_fine enough);
       }
     where
       same_cuts : {a b : List ℕ} → Cut a ≡ Cut b → a ≡ b

@@ -1,25 +1,44 @@
--- Where a code ends, and where the next one is looked for: at the front of a line, and behind a code of a size.
+-- Where the code ends that stands at the front of a line, and what stands behind its line.
 -- Assumes nothing.
-use Prim.Native.Nat.{ℕ, suc, ◌+◌, ◌-◌, ◌<◌, ◌≤◌}
+use Prim.Native.Nat.{ℕ, suc, ◌+◌, ◌-◌, ◌<◌, ◌≤◌, min}
 use mathlib.Core.Path.{◌≡◌, refl, sym, ap, ap₂, ◌∙◌}
 use mathlib.Core.List.{List, [], ◌∷◌, map}
-use mathlib.Core.Bool.{Bool, true, false, cond, false≢true}
+use mathlib.Core.Bool.{Bool, cond, not, ◌||◌}
+use borrow.Author.Tests.{ltb-true, ltb-false}
 use native.Mathlib.Omega.{arith}
-use lib.ListN.{length, get_or, take, drop, length-drop, drop_of_length-le}
-use lib.Seq.{drop-drop}
-use lib.Dec.{leb}
-use borrow.Author.Tests.{le-leb, lt-leb, ltb-true, ltb-false}
+use lib.ListN.{length, take, drop, drop_of_length-le}
+use lib.Dec.{ltb, eqb}
+use Rattle.std.specs.Prelude.{unwrap_or, nat_lt}
+use Rattle.std.specs.List.{position, position_or_len}
+use Rattle.std.proofs.lemmas.List.Sums.{prefix_len-le-length}
+use Rattle.std.proofs.lemmas.Grind.{common_steps}
+use Rattle.std.proofs.lemmas.List.{length-map}
+use Rattle.std.proofs.lemmas.List.Recursion.{is_position_or_len}
 use Rattle.rules.specs.Text.{is}
 use Rattle.rules.specs.Opening.{up_to_blank}
 use Rattle.laws.specs.ByTest.{by_test}
 use Rattle.reasons.specs.Lines.{first_line}
-use Rattle.reasons.proofs.Texts.{drop_step, first_short}
-use Rattle.cutback.specs.Lines.{codes_in, onto, lines_of, codes_ahead, codes_from}
-use Rattle.cutback.specs.Walk.{part, more_in, Stood}
+use Rattle.reasons.proofs.Texts.{first_short}
+use Rattle.cutback.specs.Lines.{codes_in, onto, lines_of, codes_ahead}
+
+-- the place of the first that passes, or the end
+position_or_all : (p : ℕ → Bool) (s : List ℕ) → unwrap_or (position p s) (length s) ≡ position_or_len p s
+position_or_all p s =
+    by_test (nat_lt (position_or_len p s) (length s)) (λ e. rw e) (λ e. let h = ltb-false _ _ e in rw e (omega (arith, h, prefix_len-le-length (λ x. not (p x)) s)))
 
 -- the code at the front of a line
 abbrev pub head : List ℕ → List ℕ
 head s = up_to_blank (first_line s)
+
+-- it ends at the first line feed or blank
+pub head_ends : (s : List ℕ) → length (head s) ≡ position_or_len (λ b. eqb b 10 || eqb b 32) s
+head_ends s = is_position_or_len (λ l. length (head l)) (λ b. eqb b 10 || eqb b 32) refl step s
+  where
+    step : (x : ℕ) (xs : List ℕ) → length (head (x ∷ xs)) ≡ cond (eqb x 10 || eqb x 32) 0 (1 + length (head xs))
+    step x xs = by_test (is "\n" x) (λ e. simp e) (λ e. by_test (is " " x) (λ f. simp (e, f)) (λ f. simp (e, f) (omega arith)))
+
+pub found_at : (s : List ℕ) → unwrap_or (position (λ b. is "\n" b || is " " b) s) (length s) ≡ length (head s)
+found_at s = position_or_all (λ b. is "\n" b || is " " b) s ∙ sym (head_ends s)
 
 pub head_part : (s : List ℕ) → take (length (head s)) s ≡ head s
 head_part [] = refl
@@ -45,105 +64,43 @@ lines_cons (b ∷ []) h = by_test (is "\n" b) (λ e. simp e) (λ e. simp e)
 lines_cons (b ∷ x ∷ s) h =
     by_test (is "\n" b) (λ e. simp e) (λ e. simp e (lines_more b (x ∷ s) (first_line (x ∷ s)) (lines_cons (x ∷ s) (omega arith))))
 
--- a line's code with the places behind it; the text from there on is the same whether or not the line feed is there
-module _ (sizes text : List ℕ) (at i end line : ℕ) (h : at < length text) (k : i ≤ length sizes) (e : end ≡ at + length (head (drop at text)))
-    (l : line ≡ end + length (first_line (drop end text))) where
-  lined : line ≡ at + length (first_line (drop at text))
-  lined =
-      let d : drop end text ≡ drop (length (head (drop at text))) (drop at text) = ap (λ (n : ℕ). drop n text) e ∙ sym (drop-drop (length (head (drop at text))) at text) in
-      omega (arith, ap (λ (t : List ℕ). length (first_line t)) d, head_line (drop at text))
+-- the code of the first line, and the codes behind that line
+pub codes_cons : (s : List ℕ) (end line : ℕ) → 0 < length s → end ≡ length (head s) → line ≡ end + length (first_line (drop end s)) →
+    codes_ahead s ≡ take end s ∷ codes_ahead (drop (line + 1) s)
+codes_cons s end line h e l =
+    let n : suc (length (first_line s)) ≡ line + 1 = omega (arith, ap (λ (m : ℕ). m + length (first_line (drop m s))) e, head_line s) in
+    ap (map up_to_blank) (lines_cons s h) ∙ ap₂ (λ (c : List ℕ) (t : List ℕ). c ∷ codes_ahead t) (sym (head_part s) ∙ ap (λ (m : ℕ). take m s) (sym e)) (ap (λ (m : ℕ). drop m s) n)
 
-  reaches : line ≤ length text
-  reaches = omega (arith, lined, first_short (drop at text), length-drop at text)
+-- that line ends within the text
+pub line_short : (s : List ℕ) (end line : ℕ) → end ≡ length (head s) → line ≡ end + length (first_line (drop end s)) → line ≤ length s
+line_short s end line e l = omega (arith, ap (λ (m : ℕ). m + length (first_line (drop m s))) e, head_line s, first_short s)
 
-  coded : part text at end ≡ head (drop at text)
-  coded = let n : end - at ≡ length (head (drop at text)) = omega arith in ap (λ (m : ℕ). take m (drop at text)) n ∙ head_part (drop at text)
+-- what is behind a place, as Rattle has it of a slice
+pub take_rest : (s : List ℕ) (n : ℕ) → take (length s - n) (drop n s) ≡ drop n s
+take_rest s n = grind (arith, common_steps)
 
-  behind : (next : ℕ) → drop next text ≡ drop (line + 1) text → codes_ahead (drop at text) ≡ part text at end ∷ codes_ahead (drop next text)
-  behind next d =
-      let some : 0 < length (drop at text) = omega (arith, length-drop at text) in
-      let n : at + suc (length (first_line (drop at text))) ≡ line + 1 = omega (arith, lined) in
-      let r : drop (suc (length (first_line (drop at text)))) (drop at text) ≡ drop next text = drop-drop (suc (length (first_line (drop at text)))) at text ∙ ap (λ (m : ℕ). drop m text) n ∙ sym d in
-      ap (map up_to_blank) (lines_cons (drop at text) some) ∙ ap₂ (λ (c : List ℕ) (t : List ℕ). c ∷ codes_ahead t) (sym coded) r
+-- the place behind the line feed, or the end where there is none
+pub codes_behind : (s : List ℕ) (end line next : ℕ) → 0 < length s → end ≡ length (head s) → line ≡ end + length (first_line (drop end s)) → next ≡ min (line + 1) (length s) →
+    codes_ahead s ≡ take end s ∷ codes_ahead (drop next s)
+codes_behind s end line next h e l n =
+    let d : drop (line + 1) s ≡ drop next s =
+    by_test (ltb (length s) (line + 1))
+    (λ t. let a : length s ≤ line + 1 = omega (arith, ltb-true _ _ t) in let b : length s ≤ next = omega (arith, ltb-true _ _ t) in drop_of_length-le s a ∙ sym (drop_of_length-le s b))
+    (λ t. let f : line + 1 ≡ next = omega (arith, ltb-false _ _ t) in ap (λ (m : ℕ). drop m s) f) in
+    codes_cons s end line h e l ∙ ap (λ (t : List ℕ). take end s ∷ codes_ahead t) d
 
-  stood : (next : ℕ) → drop next text ≡ drop (line + 1) text → line ≤ next → next ≤ length text → at < next → Stood true sizes text at i (record { end = end; next = next; item = i })
-  unfolding codes_from
-  stood next d p q f =
-      record {
-        codes = behind next d;
-        from = omega arith;
-        within = omega arith;
-        rest = (q, k);
-        further = omega arith;
-        less = omega arith;
-        few = λ n m. omega arith;
-      }
+-- there are never more lines than bytes
+onto_length : (b : ℕ) (ls : List (List ℕ)) → length (onto b ls) ≤ suc (length ls)
+onto_length b [] = omega arith
+onto_length b (l ∷ ls) = omega arith
 
-  pub line_stood : line < length text → Stood true sizes text at i (record { end = end; next = line + 1; item = i })
-  line_stood p = stood (line + 1) refl (omega arith) (omega arith) (omega (arith, lined))
+pub lines_short : (s : List ℕ) → length (codes_ahead s) ≤ length s
+lines_short s = omega (arith, length-map (lines_of s) up_to_blank, short s)
+  where
+    short : (t : List ℕ) → length (lines_of t) ≤ length t
+    short [] = omega arith
+    short (b ∷ t) = by_test (is "\n" b) (λ e. simp e (omega (arith, short t))) (λ e. simp e (omega (arith, short t, onto_length b (lines_of t))))
 
-  pub last_stood : length text ≤ line → Stood true sizes text at i (record { end = end; next = line; item = i })
-  last_stood p =
-      let q : length text ≤ line + 1 = omega arith in
-      stood line (drop_of_length-le text p ∙ sym (drop_of_length-le text q)) (omega arith) reaches (omega (arith, reaches))
-
--- a code of its size
-module _ (sizes text : List ℕ) (at i : ℕ) (h : at ≤ length text) (k : i < length sizes) where
-  abbrev size : ℕ
-  size = get_or sizes i 0
-
-  sized : codes_in (drop i sizes) (drop at text) ≡ cond (leb size (length (drop at text))) (take size (drop at text)) [] ∷ codes_in (drop (i + 1) sizes) (drop size (drop at text))
-  sized = ap (λ (l : List ℕ). codes_in l (drop at text)) (drop_step sizes i k)
-
-  pub size_stood : size ≤ length text - at → Stood false sizes text at i (record { end = at + size; next = at + size; item = i + 1 })
-  unfolding codes_from
-  size_stood p =
-      let n : at + size - at ≡ size = omega arith in
-      let fits : size ≤ length (drop at text) = omega (arith, length-drop at text) in
-      record {
-        codes =
-            sized ∙ ap₂ (λ (c : List ℕ) (t : List ℕ). c ∷ codes_in (drop (i + 1) sizes) t)
-            (rw (le-leb size (length (drop at text)) fits) (ap (λ (m : ℕ). take m (drop at text)) (sym n)))
-            (drop-drop size at text);
-        from = omega arith;
-        within = omega arith;
-        rest = (omega arith, omega arith);
-        further = omega arith;
-        less = omega arith;
-        few = λ m f. omega arith;
-      }
-
-  pub past_stood : length text - at < size → Stood false sizes text at i (record { end = at; next = length text; item = i + 1 })
-  unfolding codes_from
-  past_stood p =
-      let n : at - at ≡ 0 = omega arith in
-      let short : length (drop at text) < size = omega (arith, length-drop at text) in
-      let less : length (drop at text) ≤ size = omega arith in
-      let all : length text ≤ length text = omega arith in
-      record {
-        codes =
-            sized ∙ ap₂ (λ (c : List ℕ) (t : List ℕ). c ∷ codes_in (drop (i + 1) sizes) t)
-            (rw (lt-leb size (length (drop at text)) short) (ap (λ (m : ℕ). take m (drop at text)) (sym n)))
-            (drop_of_length-le (drop at text) less ∙ sym (drop_of_length-le text all));
-        from = omega arith;
-        within = omega arith;
-        rest = (omega arith, omega arith);
-        further = omega arith;
-        less = omega arith;
-        few = λ m f. omega arith;
-      }
-
--- what it means that there is a code more, and that there is none
-module _ (sizes text : List ℕ) (at i : ℕ) where
-  pub more_lined : (lined : Bool) → lined ≡ true → more_in lined sizes text at i ≡ true → at < length text
-  more_lined true e h = ltb-true at (length text) h
-  more_lined false e h = absurd (false≢true e)
-
-  pub more_sized : (lined : Bool) → lined ≡ false → more_in lined sizes text at i ≡ true → i < length sizes
-  more_sized true e h = absurd (false≢true (sym e))
-  more_sized false e h = ltb-true i (length sizes) h
-
-  pub no_more : (lined : Bool) → more_in lined sizes text at i ≡ false → codes_from lined (drop i sizes) (drop at text) ≡ []
-  unfolding codes_from
-  no_more true h = ap codes_ahead (drop_of_length-le text (ltb-false at (length text) h))
-  no_more false h = ap (λ (l : List ℕ). codes_in l (drop at text)) (drop_of_length-le sizes (ltb-false i (length sizes) h))
+pub sizes_long : (sizes s : List ℕ) → length (codes_in sizes s) ≡ length sizes
+sizes_long [] s = refl
+sizes_long (n ∷ ns) s = ap suc (sizes_long ns (drop n s))

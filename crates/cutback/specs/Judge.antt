@@ -5,6 +5,8 @@ use Rattle.std.specs.Prelude.{ℕ, Bool, false, cond, not, ◌||◌, List, [], �
 use Rattle.rules.specs.Codes.{is_code, same}
 use Rattle.rules.specs.Answer.{Answer, fitted}
 use Rattle.rules.specs.Answer.{refused as refused01}
+use Rattle.cutback.specs.declared.refusal.CutRule.{CutRule}
+use Rattle.cutback.specs.declared.refusal.CutRule.TheVariants.{Unknown, BadGrams, BadCode, BadCount, BadLots}
 use Rattle.cutback.specs.Limit.{tons, may_stay}
 use Rattle.cutback.specs.Seats.{seats_of, cuts_of}
 
@@ -22,6 +24,14 @@ bad_count = 43
 
 abbrev pub bad_lots : ℕ
 bad_lots = 44
+
+-- the number of each rule, as code names it
+abbrev pub number_of : CutRule → ℕ
+number_of Unknown = unknown
+number_of BadGrams = bad_grams
+number_of BadCode = bad_code
+number_of BadCount = bad_count
+number_of BadLots = bad_lots
 
 pub data Verdict : Type 0 where
   Refused : ℕ → Verdict

@@ -1,9 +1,8 @@
 -- The seats as the code has them: a key for each code, in the order of the codes, and the lots beside it.
 -- Assumes nothing.
-use Rattle.std.specs.Prelude.{ℕ, ◌-◌, ◌≤◌, ◌<◌, min, Bool, false, cond, ◌&&◌, ◌||◌, ◌≡◌, List, length, get_or, ltb, eqb}
+use Rattle.std.specs.Prelude.{ℕ, ◌-◌, ◌≤◌, ◌<◌, min, Bool, true, false, cond, ◌&&◌, ◌||◌, ◌≡◌, List, length, get_or, ltb, eqb, Option, Some, None}
 use Rattle.rules.specs.Division.{sum_of}
 use Rattle.laws.specs.Sums.{up_to}
-use Rattle.cutback.specs.declared.seats.Total.{Total}
 use Rattle.cutback.specs.Judge.{lots_bad}
 
 abbrev pub at : List ℕ → ℕ → ℕ
@@ -28,7 +27,7 @@ pub record Held (keys lots : List ℕ) : Type 0 where
   pub keyed : length lots ≤ length keys
   pub small : (i : ℕ) → i < length lots → at lots i ≤ 1_000_000
 
--- whether lots are too many at one seat; and otherwise their sum
-pub record Summed (lots : List ℕ) (r : Total) : Type 0 where
-  pub told : r.bad ≡ lots_bad lots
-  pub whole : r.bad ≡ false → r.sum ≡ sum_of (λ n. n) lots
+-- none where lots are too many at one seat; and otherwise their sum
+abbrev pub Summed : List ℕ → Option ℕ → Type 0
+Summed lots None = lots_bad lots ≡ true
+Summed lots (Some sum) = (lots_bad lots ≡ false) × (sum ≡ sum_of (λ n. n) lots)

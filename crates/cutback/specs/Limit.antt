@@ -1,7 +1,7 @@
 -- docs/POSITION-LIMIT.md. Request [13], "Article 34: a corporate customer may hold 2 metric tons of deferred gold or 80 of silver, an
 -- individual 1 or 20".
 -- Assumes nothing.
-use Rattle.std.specs.Prelude.{ℕ, ◌*◌, ◌/◌, cond, List}
+use Rattle.std.specs.Prelude.{ℕ, ◌*◌, ◌/◌, cond, List, Option, Some, None, eqb}
 use Rattle.rules.specs.Text.{bytes}
 use Rattle.rules.specs.Codes.{same}
 
@@ -22,3 +22,10 @@ tons kind metal =
 -- "What may stay is the whole part of limit / grams."
 abbrev pub may_stay : List ℕ → List ℕ → ℕ → ℕ
 may_stay kind metal grams = tons kind metal * ton / grams
+
+-- the same as code has it: none where the metal is another, and where the limit is 0
+abbrev pub in_metal : List ℕ → ℕ → ℕ → Option ℕ
+in_metal metal gold silver = cond (same metal (bytes "gold")) (Some gold) (cond (same metal (bytes "silver")) (Some silver) None)
+
+abbrev pub some_tons : ℕ → Option ℕ
+some_tons n = cond (eqb n 0) None (Some n)

@@ -1,6 +1,6 @@
 -- docs/POSITION-LIMIT.md. Where the codes of the seats stand: cut from bytes by their sizes, or at the front of lines.
 -- Assumes nothing.
-use Rattle.std.specs.Prelude.{ℕ, Bool, true, false, cond, List, [], ◌∷◌, map, length, take, drop, leb}
+use Rattle.std.specs.Prelude.{ℕ, cond, List, [], ◌∷◌, map, length, take, drop, leb}
 use Rattle.rules.specs.Text.{is}
 use Rattle.rules.specs.Opening.{up_to_blank}
 
@@ -21,8 +21,3 @@ lines_of (b ∷ s) = cond (is "\n" b) ([] ∷ lines_of s) (onto b (lines_of s))
 -- "its code is what stands before the first blank"
 abbrev pub codes_ahead : List ℕ → List (List ℕ)
 codes_ahead s = map up_to_blank (lines_of s)
-
--- the codes of one way or of the other
-unfoldable pub codes_from : Bool → List ℕ → List ℕ → List (List ℕ)
-codes_from true sizes s = codes_ahead s
-codes_from false sizes s = codes_in sizes s

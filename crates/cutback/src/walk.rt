@@ -1,168 +1,129 @@
 // The codes of the seats, one after the other, where they stand: each of its size behind the one before, or each at the front of a line.
-ghost use Rattle.std.specs.Prelude.{◌≡◌, true, false, cond, ◌+◌, ◌≤◌, ◌<◌, length, drop, ltb};
+ghost use Rattle.std.specs.Prelude.{◌≡◌, ◌||◌, ◌^◌, ◌<◌, [], ◌∷◌, List, ℕ, length, position, MatchOption};
+ghost use Rattle.rules.specs.Text.{is};
 ghost use Rattle.rules.specs.Opening.{up_to_blank};
 ghost use Rattle.reasons.specs.Lines.{first_line};
-ghost use Rattle.cutback.specs.Lines.{codes_from};
+ghost use Rattle.cutback.specs.Lines.{codes_in, codes_ahead};
 ghost use Rattle.cutback.specs.Judge.{again};
-ghost use Rattle.cutback.specs.Walk.{IsInside, more_in, part, Stood, kept, Counted};
+ghost use Rattle.cutback.specs.Walk.{kept, Counted};
 
 use codes::Code;
+use rules::MOST_SEATS;
 
-// Where the code ends that begins where it is looked for, and the places behind it: in the text, and in the sizes.
-#[derive(Clone, Copy)]
-pub struct Spot {
-    pub end: usize,
-    pub next: usize,
-    pub item: usize,
+// Codes that are taken one after the other; a copy takes the same ones again.
+pub trait Codes<'a>: Copy {
+    // Those that are left.
+    ghost codes: { Self → List (List ℕ) };
+
+    fn next(&mut self) -> Option<&'a [u8]>
+        ensures taken { MatchOption result (codes self.old ≡ []) (λ code. codes self.old ≡ code.now ∷ codes self.new) }
+        ensures few { length (codes self.old) < 2 ^ 64 };
 }
 
-// Whether a code is malformed or twice, and how many there are.
+// Codes that stand one behind the other, each of its size.
 #[derive(Clone, Copy)]
-pub struct Read {
-    pub bad: bool,
-    pub count: usize,
+pub struct BySize<'a> {
+    pub text: &'a [u8],
+    pub sizes: &'a [u64],
 }
 
-// Whether there is a code more.
-fn more(size: usize, count: usize, lined: bool, at: usize, i: usize) -> bool
-    ensures { result ≡ cond lined (ltb at size) (ltb i count) }
+impl<'a> Codes<'a> for BySize<'a> {
+    ghost codes = { λ s. codes_in s.sizes.now s.text.now };
+
+    // One that runs past the end stands as an empty one, and so do those behind it.
+    #[tactic(auto, using(crate::proofs::Places::sizes_long))]
+    fn next(&mut self) -> Option<&'a [u8]> {
+        let (size, sizes) = self.sizes.split_first()?;
+        self.sizes = sizes;
+        let text = self.text;
+        if (text.len() as u64) < *size {
+            self.text = &[];
+            return Some(&[]);
+        }
+        let (code, rest) = text.split_at(*size as usize);
+        self.text = rest;
+        Some(code)
+    }
+}
+
+// Codes each of which stands before the first blank of a line.
+#[derive(Clone, Copy)]
+pub struct ByLine<'a> {
+    pub text: &'a [u8],
+}
+
+// A byte behind a code at the front of a line.
+fn ends_code(byte: u8) -> bool
+    ensures { result ≡ (is "\n" byte || is " " byte) }
 {
-    if lined { at < size } else { i < count }
+    matches!(byte, b'\n' | b' ')
+}
+
+fn first_end(text: &[u8]) -> Option<usize>
+    ensures { result ≡ position (λ b. is "\n" b || is " " b) text.now }
+{
+    text.iter().position(|byte| ends_code(*byte))
 }
 
 // Where the code ends that stands at the front of a line.
-fn code_end(text: &[u8], at: usize) -> usize
-    requires { at ≤ length text.now }
-    ensures { result ≡ at + length (up_to_blank (first_line (drop at text.now))) }
+fn code_end(text: &[u8]) -> usize
+    ensures { result ≡ length (up_to_blank (first_line text.now)) }
 {
-    let mut i = at;
-    while i < text.len() {
-        if text[i] == b'\n' {
-            return i;
+    first_end(text).unwrap_or(text.len())
+}
+
+impl<'a> Codes<'a> for ByLine<'a> {
+    ghost codes = { λ s. codes_ahead s.text.now };
+
+    fn next(&mut self) -> Option<&'a [u8]> {
+        let text = self.text;
+        if text.is_empty() {
+            return None;
         }
-        if text[i] == b' ' {
-            return i;
-        }
-        i += 1;
-    }
-    i
-}
-
-// The next code at the front of a line.
-fn next_line(text: &[u8], sizes: &[u64], at: usize, i: usize) -> Spot
-    requires { IsInside sizes.now text.now at i × (at < length text.now) }
-    ensures { Stood true sizes.now text.now at i result }
-{
-    let end = code_end(text, at);
-    let line = reasons::line_end(text, end);
-    if line < text.len() {
-        return Spot {
-            end,
-            next: line + 1,
-            item: i,
-        };
-    }
-    Spot {
-        end,
-        next: line,
-        item: i,
+        let end = code_end(text);
+        let line = reasons::line_end(text, end);
+        let next = (line + 1).min(text.len());
+        self.text = &text[next..];
+        Some(&text[..end])
     }
 }
 
-// The next code of its size. One that runs past the end stands as an empty one, and so do those behind it.
-fn next_sized(text: &[u8], sizes: &[u64], at: usize, i: usize) -> Spot
-    requires { IsInside sizes.now text.now at i × (i < length sizes.now) }
-    ensures { Stood false sizes.now text.now at i result }
+// Whether a code is among some.
+fn stands_again<'a, C: Codes<'a>>(code: &[u8], mut others: C) -> bool
+    ensures { result ≡ again code.now (C.codes others) }
 {
-    let left = (text.len() - at) as u64;
-    let size = sizes[i];
-    if left < size {
-        return Spot {
-            end: at,
-            next: text.len(),
-            item: i + 1,
-        };
-    }
-    let end = at + size as usize;
-    Spot {
-        end,
-        next: end,
-        item: i + 1,
-    }
-}
-
-fn next_code(text: &[u8], sizes: &[u64], lined: bool, at: usize, i: usize) -> Spot
-    requires { IsInside sizes.now text.now at i × (more_in lined sizes.now text.now at i ≡ true) }
-    ensures { Stood lined sizes.now text.now at i result }
-{
-    if lined {
-        next_line(text, sizes, at, i)
-    } else {
-        next_sized(text, sizes, at, i)
-    }
-}
-
-// Whether the code from one place to another is among those that stand from here on.
-fn stands_again(
-    text: &[u8],
-    sizes: &[u64],
-    lined: bool,
-    from: usize,
-    end: usize,
-    at: usize,
-    i: usize,
-) -> bool
-    requires { (from ≤ end) × (end ≤ length text.now) × IsInside sizes.now text.now at i }
-    ensures { result ≡ again (part text.now from end) (codes_from lined (drop i sizes.now) (drop at text.now)) }
-{
-    let mut here = at;
-    let mut k = i;
-    while more(text.len(), sizes.len(), lined, here, k) {
-        let spot = next_code(text, sizes, lined, here, k);
-        let stop = spot.end;
-        if command::is(&text[from..end], &text[here..stop]) {
+    while let Some(other) = others.next() {
+        if code == other {
             return true;
         }
-        here = spot.next;
-        k = spot.item;
     }
     false
 }
 
 // The key of one code more, where it is among the first four.
-fn keep(keys: &mut [u64], count: usize, key: u64)
-    requires { length keys.old ≡ 4 }
+fn keep(keys: &mut [u64; MOST_SEATS], count: usize, key: u64)
     ensures { keys.new ≡ kept count key keys.old }
 {
-    if count < 4 {
+    if count < MOST_SEATS {
         keys[count] = key;
     }
 }
 
-// Goes over all codes, and keeps the keys of the first four. Each is held against those behind it, so that the time grows with the square of
-// their number.
-pub fn read_codes(text: &[u8], sizes: &[u64], lined: bool, keys: &mut [u64]) -> Read
-    requires { length keys.old ≡ 4 }
-    ensures { Counted (codes_from lined sizes.now text.now) keys.new result }
+// How many codes there are, and the keys of the first four; none where one is malformed or twice. Each is held against those behind it, so that
+// the time grows with the square of their number.
+pub fn read_codes<'a, C: Codes<'a>>(mut codes: C, keys: &mut [u64; MOST_SEATS]) -> Option<usize>
+    ensures { Counted (C.codes codes) keys.new result }
 {
-    let mut at: usize = 0;
-    let mut i: usize = 0;
-    let mut count: usize = 0;
-    while more(text.len(), sizes.len(), lined, at, i) {
-        let spot = next_code(text, sizes, lined, at, i);
-        let end = spot.end;
-        let Code::Key(key) = codes::read_code(&text[at..end]) else {
-            return Read { bad: true, count };
+    let mut count = 0;
+    while let Some(code) = codes.next() {
+        let Code::Key(key) = codes::read_code(code) else {
+            return None;
         };
-        let next = spot.next;
-        let item = spot.item;
-        if stands_again(text, sizes, lined, at, end, next, item) {
-            return Read { bad: true, count };
+        if stands_again(code, codes) {
+            return None;
         }
         keep(keys, count, key);
         count += 1;
-        at = next;
-        i = item;
     }
-    Read { bad: false, count }
+    Some(count)
 }

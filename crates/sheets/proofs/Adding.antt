@@ -2,33 +2,35 @@
 -- Assumes nothing.
 use Prim.Native.Nat.{ℕ, suc, ◌+◌, ◌≤◌, ◌<◌}
 use mathlib.Core.Path.{◌≡◌, refl, sym, ap, ◌∙◌}
-use mathlib.Core.List.{List}
-use native.Mathlib.Nat.{zero-add, add_assoc}
+use mathlib.Core.List.{List, [], ◌∷◌, ◌++◌, append_assoc}
 use native.Mathlib.Numerals.{add-one}
 use native.Mathlib.Omega.{arith}
 use lib.ListN.{length, drop, length-append, length-drop, drop_of_length-le}
 use lib.Seq.{drop-drop}
 use Rattle.rules.specs.Book.{Stop}
 use Rattle.days.specs.Lines.{lines_of}
-use Rattle.sheets.specs.declared.sizing.Size.{Size}
-use Rattle.sheets.specs.declared.sizing.Size.TheVariants.{Length, Refused}
+use Rattle.std.specs.Prelude.{Ok}
 use Rattle.sheets.specs.Read.{Read, Bad, Made, before, first_of, lines_from}
 use Rattle.sheets.specs.Places.{front_of, of_front, size_of}
 use Rattle.sheets.specs.Fronts.{read_front}
-use Rattle.sheets.specs.Sizes.{Fits, sized_of}
+use Rattle.sheets.specs.Sizes.{Fits, Tells}
 
--- so many bytes more
-abbrev pub more_bytes : ℕ → Size → Size
-more_bytes n (Length m) = Length (n + m)
-more_bytes n (Refused number place) = Refused number place
+-- n bytes were made, and the rest is still to come
+pub record Added (whole rest : Read) (n : ℕ) : Type 0 where
+  pub fields : List ℕ
+  pub made : whole ≡ before fields rest
+  pub size : length fields ≡ n
 
-pub none_more : (r : Size) → r ≡ more_bytes 0 r
-none_more (Length m) = ap Length (sym (zero-add m))
-none_more (Refused number place) = refl
+before_none : (r : Read) → r ≡ before [] r
+before_none (Bad number place) = refl
+before_none (Made rest) = refl
 
-sized_before : (n : ℕ) (f : List ℕ) (r : Read) → more_bytes n (sized_of (before f r)) ≡ more_bytes (n + length f) (sized_of r)
-sized_before n f (Bad number place) = refl
-sized_before n f (Made rest) = ap Length (ap (λ (m : ℕ). n + m) (length-append f rest) ∙ sym (add_assoc n (length f) (length rest)))
+pub added_none : (r : Read) → Added r r 0
+added_none r = record { fields = []; made = before_none r; size = refl }
+
+before_twice : (f g : List ℕ) (r : Read) → before f (before g r) ≡ before (f ++ g) r
+before_twice f g (Bad number place) = refl
+before_twice f g (Made rest) = ap Made (sym (append_assoc f g rest))
 
 -- the lines from a place on, by what the line that begins there comes to
 module _ (mark k : ℕ) (s : List ℕ) (at : ℕ) (h : at < length s) where
@@ -46,16 +48,21 @@ module _ (mark k : ℕ) (s : List ℕ) (at : ℕ) (h : at < length s) where
       ∙ ap (λ (t : List ℕ). before fits.fields (lines_from mark (suc k) (lines_of t))) place
 
 -- n bytes were made up to a place, where line k begins
-module _ (mark k : ℕ) (s : List ℕ) (whole : Size) (at n : ℕ) (so : whole ≡ more_bytes n (sized_of (lines_from mark k (lines_of (drop at s))))) where
-  pub adds_good : at < length s → (next size : ℕ) → Fits mark s at next size → whole ≡ more_bytes (n + size) (sized_of (lines_from mark (k + 1) (lines_of (drop next s))))
+module _ (mark k : ℕ) (s : List ℕ) (whole : Read) (at n : ℕ) (so : Added whole (lines_from mark k (lines_of (drop at s))) n) where
+  pub adds_good : at < length s → (next size : ℕ) → Fits mark s at next size → Added whole (lines_from mark (k + 1) (lines_of (drop next s))) (n + size)
   adds_good h next size fits =
-      so ∙ ap (λ r. more_bytes n (sized_of r)) (lines_go mark k s at h next size fits) ∙ sized_before n fits.fields (lines_from mark (suc k) (lines_of (drop next s)))
-      ∙ ap (λ (m : ℕ). more_bytes (n + m) (sized_of (lines_from mark (suc k) (lines_of (drop next s))))) fits.makes
-      ∙ ap (λ (m : ℕ). more_bytes (n + size) (sized_of (lines_from mark m (lines_of (drop next s))))) (sym (add-one k))
+      record {
+        fields = so.fields ++ fits.fields;
+        made = so.made ∙ ap (before so.fields) (lines_go mark k s at h next size fits) ∙ before_twice so.fields fits.fields (lines_from mark (suc k) (lines_of (drop next s)))
+            ∙ ap (λ (m : ℕ). before (so.fields ++ fits.fields) (lines_from mark m (lines_of (drop next s)))) (sym (add-one k));
+        size = omega (arith, length-append so.fields fits.fields, so.size, fits.makes);
+      }
 
-  pub adds_bad : at < length s → (number : ℕ) → of_front mark (front_of (drop at s)) ≡ Stop number → Refused number k ≡ whole
-  adds_bad h number e = sym (so ∙ ap (λ r. more_bytes n (sized_of r)) (lines_stop mark k s at h number e))
+  pub adds_bad : at < length s → (number : ℕ) → of_front mark (front_of (drop at s)) ≡ Stop number → whole ≡ Bad number k
+  adds_bad h number e = so.made ∙ ap (before so.fields) (lines_stop mark k s at h number e)
 
-  pub adds_end : length s ≤ at → Length (n + 3) ≡ whole
+  pub adds_end : length s ≤ at → Tells whole (Ok (n + 3))
   unfolding lines_from lines_of
-  adds_end h = sym (so ∙ rw (drop_of_length-le s h))
+  adds_end h =
+      let e : whole ≡ Made (so.fields ++ 90 ∷ 0 ∷ 0 ∷ []) = so.made ∙ rw (drop_of_length-le s h) refl in
+      rw e (refl, omega (arith, length-append so.fields (90 ∷ 0 ∷ 0 ∷ []), so.size))

@@ -1,10 +1,9 @@
 -- What the tests of a call come to is its answer.
 -- Assumes nothing.
 use Prim.Native.Nat.{ℕ, ◌+◌}
-use mathlib.Core.Path.{◌≡◌, refl, sym, ap, ◌∙◌}
+use mathlib.Core.Path.{◌≡◌, refl, ap, ◌∙◌}
 use mathlib.Core.Bool.{Bool, true, false, cond}
 use mathlib.Core.List.{List}
-use native.Mathlib.Omega.{arith}
 use native.Mathlib.Nat.{zero-add}
 use lib.ListN.{length}
 use lib.Dec.{ltb}
@@ -12,22 +11,17 @@ use Rattle.rules.specs.Book.{Verdict, Refused, Accepted, judge}
 use Rattle.rules.specs.Fields.{fields_of}
 use Rattle.rules.specs.Answer.{Answer}
 use Rattle.rules.specs.Answer.{refused as refused01}
-use Rattle.laws.specs.Sane.{refused_above}
 use Rattle.answers.specs.Answered.{Answered}
-use Rattle.fields.specs.declared.Refusal.{Refusal}
 use Rattle.writing.specs.Written.{Wrote, written_front}
 use Rattle.sheets.specs.Refusal as refusal
 use Rattle.sheets.specs.Mark.{is_mark}
 use Rattle.sheets.specs.Write.{sheet_of}
 use Rattle.sheets.specs.Answers.{left, of_verdict, to_sheet}
-use Rattle.sheets.specs.Shown.{sheet_size, sheet_length, refusal_of}
+use Rattle.sheets.specs.Shown.{sheet_size, sheet_length, IsAccepted}
 
 -- an answer by its number and place, nothing written
 pub kept_so : {a : Answer} {n place : ℕ} {entry exit : List ℕ} → a ≡ refused01 n place → exit ≡ entry → Answered a (record { number = n; place = place; length = 0 }) entry exit
 kept_so e k = rw e (record { number = refl; place = refl; length = refl; buffer = k })
-
-pub refused_so : {a : Answer} {n place : ℕ} (entry : List ℕ) → a ≡ refused01 n place → Answered a (record { number = n; place = place; length = 0 }) entry entry
-refused_so entry e = kept_so e refl
 
 -- some bytes at the front, with a number and a place
 pub left_so : {a : Answer} {n place next : ℕ} {entry exit : List ℕ} (s : List ℕ) → a ≡ left s n place → Wrote 0 s entry exit next →
@@ -40,25 +34,21 @@ module _ (book : List ℕ) (mark room : ℕ) where
   unfolding to_sheet
   no_mark e = rw e refl
 
-  module _ (marked : is_mark mark ≡ true) (r : Refusal) (judged : r ≡ refusal_of (judge book)) where
+  module _ (marked : is_mark mark ≡ true) where
     by_verdict : to_sheet book mark room ≡ of_verdict mark room book (judge book)
     unfolding to_sheet
     by_verdict = rw marked refl
 
-    pub stopped : (r.number ≡ 0 → ⊥) → to_sheet book mark room ≡ refused01 r.number r.place
-    stopped z = by_verdict ∙ go (judge book) judged
-      where
-        go : (v : Verdict) → r ≡ refusal_of v → of_verdict mark room book v ≡ refused01 r.number r.place
-        go (Refused n place) e = ap (λ (x : Refusal). refused01 x.number x.place) (sym e)
-        go (Accepted terms cs) e = absurd (z (ap (λ (x : Refusal). x.number) e))
+    pub stopped : (n place : ℕ) → judge book ≡ Refused n place → to_sheet book mark room ≡ refused01 n place
+    stopped n place e = by_verdict ∙ ap (of_verdict mark room book) e
 
-    module _ (zero : r.number ≡ 0) where
+    module _ (good : IsAccepted (judge book)) where
       accepted : to_sheet book mark room ≡ cond (ltb room (length (sheet_of mark book))) (refused01 refusal.no_result 0) (left (sheet_of mark book) 0 0)
-      accepted = by_verdict ∙ go (judge book) refl judged
+      accepted = by_verdict ∙ go (judge book) good
         where
-          go : (v : Verdict) → judge book ≡ v → r ≡ refusal_of v → of_verdict mark room book v ≡ cond (ltb room (length (sheet_of mark book))) (refused01 refusal.no_result 0) (left (sheet_of mark book) 0 0)
-          go (Refused n place) j e = absurd (let q : r.number ≡ n = ap (λ (x : Refusal). x.number) e in let p = refused_above book n place j in omega arith)
-          go (Accepted terms cs) j e = refl
+          go : (v : Verdict) → IsAccepted v → of_verdict mark room book v ≡ cond (ltb room (length (sheet_of mark book))) (refused01 refusal.no_result 0) (left (sheet_of mark book) 0 0)
+          go (Refused n place) h = absurd h
+          go (Accepted terms cs) h = refl
 
       pub no_room : ltb room (6 + sheet_size (fields_of book)) ≡ true → to_sheet book mark room ≡ refused01 refusal.no_result 0
       no_room e = accepted ∙ rw (sheet_length mark book, e) refl

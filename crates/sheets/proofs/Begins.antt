@@ -1,36 +1,34 @@
--- A sheet that begins with a word: as a loop finds it, and as its first line says it.
+-- A sheet that begins with a word: as `starts_with` finds it, and as its first line says it.
 -- Assumes nothing.
-use Prim.Native.Nat.{ℕ, ◌+◌, ◌≤◌, ◌<◌}
+use Prim.Native.Nat.{ℕ, ◌≤◌}
 use mathlib.Core.Path.{◌≡◌, refl, sym, ap, ap₂, ◌∙◌}
 use mathlib.Core.Bool.{Bool, true, false, ◌&&◌, and-false, and-eq-true_iff}
 use mathlib.Core.List.{List, [], ◌∷◌, ◌++◌}
 use native.Mathlib.Omega.{arith}
-use borrow.Author.Tests.{eq-eqb, ne_eqb, eqb-true}
+use borrow.Author.Tests.{eq-eqb, ne_eqb, eqb-true, eqb-false}
 use lib.Dec.{eqb}
-use lib.ListN.{length, get_or, drop, drop_of_length-le}
+use lib.ListN.{length, take, drop}
 use Rattle.rules.specs.Text.{is, bytes}
 use Rattle.rules.specs.Codes.{same}
 use Rattle.laws.specs.ByTest.{by_test, not_either}
 use Rattle.days.specs.Lines.{Line, Whole, Cut, longer, lines_of}
 use Rattle.sheets.specs.Mark.{stands_in}
 use Rattle.sheets.specs.Read.{Bad, lines_from, sheet_from}
-use Rattle.sheets.specs.Making.{begins}
-use Rattle.sheets.proofs.Bytes.{drop_step}
+use Rattle.std.specs.Cmp.Lexicographic.{pointwise}
 
-pub too_long : (word s : List ℕ) → length s < length word → begins word s ≡ false
-too_long [] s h = absurd (omega arith)
-too_long (x ∷ word) [] h = refl
-too_long (x ∷ word) (y ∷ s) h = rw (too_long word s (omega arith)) (and-false (eqb y x))
+-- some bytes begin with a word
+abbrev begins : List ℕ → List ℕ → Bool
+begins [] s = true
+begins (x ∷ word) [] = false
+begins (x ∷ word) (y ∷ s) = eqb y x && begins word s
 
-module _ (word s : List ℕ) (i : ℕ) where
-  pub next_equal : i < length word → i < length s → get_or s i 0 ≡ get_or word i 0 → begins (drop i word) (drop i s) ≡ begins (drop (i + 1) word) (drop (i + 1) s)
-  next_equal h k e = simp (drop_step word i h, drop_step s i k, eq-eqb _ _ e)
+eqb_swap : (m n : ℕ) → eqb m n ≡ eqb n m
+eqb_swap m n = by_test (eqb n m) (λ e. rw e (eq-eqb m n (sym (eqb-true n m e)))) (λ e. rw e (ne_eqb m n (λ q. eqb-false n m e (sym q))))
 
-  pub next_other : i < length word → i < length s → (get_or s i 0 ≡ get_or word i 0 → ⊥) → begins (drop i word) (drop i s) ≡ false
-  next_other h k e = simp (drop_step word i h, drop_step s i k, ne_eqb _ _ e)
-
-  pub none_left : length word ≤ i → begins (drop i word) (drop i s) ≡ true
-  none_left h = simp (drop_of_length-le word h)
+starts : (word s : List ℕ) → pointwise eqb word (take (length word) s) ≡ begins word s
+starts [] s = refl
+starts (x ∷ word) [] = refl
+starts (x ∷ word) (y ∷ s) = ap₂ (λ (p q : Bool). p && q) (eqb_swap x y) (starts word s)
 
 -- the first line is a word
 abbrev first_is : List ℕ → List Line → Bool
@@ -74,15 +72,22 @@ begins_with (x ∷ word) (y ∷ s) h =
     let p = (and-eq-true_iff (eqb y x) (begins word s)).0 h in
     ap₂ (λ (n : ℕ) (l : List ℕ). n ∷ l) (eqb-true y x p.0) (begins_with word s p.1)
 
--- the mark line
+-- the mark line, as `starts_with` finds it
 module _ (s : List ℕ) where
-  pub comma_lines : begins (bytes "mark,\n") s ≡ true → (sheet_from (lines_of s) ≡ lines_from 44 2 (lines_of (drop 6 s))) × (6 ≤ length s)
-  unfolding sheet_from lines_of
-  comma_lines h = let e = begins_with (bytes "mark,\n") s h in (ap (λ (t : List ℕ). sheet_from (lines_of t)) e, omega (arith, ap length e))
+  abbrev pub Starts : List ℕ → Bool
+  Starts word = pointwise eqb word (take (length word) s)
 
-  pub point_lines : begins (bytes "mark.\n") s ≡ true → (sheet_from (lines_of s) ≡ lines_from 46 2 (lines_of (drop 6 s))) × (6 ≤ length s)
+  pub comma_lines : Starts (bytes "mark,\n") ≡ true → (sheet_from (lines_of s) ≡ lines_from 44 2 (lines_of (drop 6 s))) × (6 ≤ length s)
   unfolding sheet_from lines_of
-  point_lines h = let e = begins_with (bytes "mark.\n") s h in (ap (λ (t : List ℕ). sheet_from (lines_of t)) e, omega (arith, ap length e))
+  comma_lines h =
+      let e = begins_with (bytes "mark,\n") s (sym (starts (bytes "mark,\n") s) ∙ h) in
+      (ap (λ (t : List ℕ). sheet_from (lines_of t)) e, omega (arith, ap length e))
+
+  pub point_lines : Starts (bytes "mark.\n") ≡ true → (sheet_from (lines_of s) ≡ lines_from 46 2 (lines_of (drop 6 s))) × (6 ≤ length s)
+  unfolding sheet_from lines_of
+  point_lines h =
+      let e = begins_with (bytes "mark.\n") s (sym (starts (bytes "mark.\n") s) ∙ h) in
+      (ap (λ (t : List ℕ). sheet_from (lines_of t)) e, omega (arith, ap length e))
 
   no_head : (ls : List Line) → first_is (bytes "mark,") ls ≡ false → first_is (bytes "mark.") ls ≡ false → sheet_from ls ≡ Bad 20 1
   unfolding sheet_from
@@ -90,5 +95,7 @@ module _ (s : List ℕ) where
   no_head (Cut v ∷ ls) h k = refl
   no_head (Whole v ∷ ls) h k = rw (h, k)
 
-  pub no_lines : begins (bytes "mark,\n") s ≡ false → begins (bytes "mark.\n") s ≡ false → sheet_from (lines_of s) ≡ Bad 20 1
-  no_lines h k = no_head (lines_of s) (sym (begins_line (bytes "mark,") s refl) ∙ h) (sym (begins_line (bytes "mark.") s refl) ∙ k)
+  pub no_lines : Starts (bytes "mark,\n") ≡ false → Starts (bytes "mark.\n") ≡ false → sheet_from (lines_of s) ≡ Bad 20 1
+  no_lines h k =
+      no_head (lines_of s) (sym (begins_line (bytes "mark,") s refl) ∙ sym (starts (bytes "mark,\n") s) ∙ h)
+      (sym (begins_line (bytes "mark.") s refl) ∙ sym (starts (bytes "mark.\n") s) ∙ k)

@@ -1,17 +1,18 @@
 -- A point in a point's place changes nothing; a field's length is that of its value in either mark.
 -- Assumes nothing.
-use Prim.Native.Nat.{ℕ, ◌/◌, ◌%◌}
+use Prim.Native.Nat.{ℕ, ◌+◌, ◌/◌, ◌%◌, ◌<◌, ◌≤◌}
 use mathlib.Core.Path.{◌≡◌, refl, sym, ap, subst, ◌∙◌}
 use mathlib.Core.List.{List, [], ◌∷◌, ◌++◌}
-use mathlib.Core.Bool.{Bool, true, false, cond}
+use mathlib.Core.Bool.{Bool, true, false, cond, ◌||◌, or-false, or_assoc}
 use borrow.Author.Tests.{eqb-true}
 use lib.Dec.{eqb}
-use lib.ListN.{length, length-map}
+use lib.ListN.{length, get_or, drop, length-map, drop_of_length-le}
 use Rattle.writing.specs.Written.{Wrote}
 use Rattle.laws.specs.ByTest.{by_test}
-use Rattle.sheets.specs.Mark.{respelt, in_book}
+use Rattle.sheets.specs.Mark.{respelt, in_book, stands_in}
 use Rattle.sheets.specs.Line.{carried, field_of, seat_of}
 use Rattle.sheets.specs.Sizes.{one_field}
+use Rattle.sheets.proofs.Bytes.{drop_step}
 
 same_byte : (x : ℕ) → respelt 46 46 x ≡ x
 same_byte x = by_test (eqb x 46) (λ e. rw e (sym (eqb-true x 46 e))) (λ e. rw e)
@@ -40,3 +41,11 @@ module _ {at r : ℕ} {entry exit : List ℕ} where
 
   pub figure_wrote : (mark t : ℕ) (v : List ℕ) → carried t ≡ false → Wrote at (field_of t (in_book mark v)) entry exit r → Wrote at (one_field mark t v) entry exit r
   figure_wrote mark t v e w = subst (λ (s : List ℕ). Wrote at s entry exit r) (ap (λ (b : Bool). cond b (field_of t v) (field_of t (in_book mark v))) (sym e)) w
+
+-- a byte among some, one after the other
+module _ (b : ℕ) (found : Bool) (v : List ℕ) (i : ℕ) (so : (found || stands_in b (drop i v)) ≡ stands_in b v) where
+  pub stands_on : i < length v → ((found || eqb (get_or v i 0) b) || stands_in b (drop (i + 1) v)) ≡ stands_in b v
+  stands_on h = or_assoc found (eqb (get_or v i 0) b) (stands_in b (drop (i + 1) v)) ∙ ap (λ (l : List ℕ). found || stands_in b l) (sym (drop_step v i h)) ∙ so
+
+  pub stands_all : length v ≤ i → found ≡ stands_in b v
+  stands_all h = sym (or-false found) ∙ ap (λ (l : List ℕ). found || stands_in b l) (sym (drop_of_length-le v h)) ∙ so

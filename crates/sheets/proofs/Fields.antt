@@ -1,6 +1,6 @@
 -- The fields of a book from a place on, as a sheet has them: the field that stands there, and those behind it.
 -- Assumes nothing.
-use Prim.Native.Nat.{ℕ, ◌+◌, ◌-◌}
+use Prim.Native.Nat.{ℕ, ◌+◌, ◌-◌, ◌≤◌}
 use mathlib.Core.Path.{◌≡◌, sym, ap, ◌∙◌}
 use mathlib.Core.List.{List, [], ◌∷◌, ◌++◌}
 use native.Mathlib.Omega.{arith}
@@ -14,6 +14,7 @@ use Rattle.laws.specs.Fields.{size_at, fields_end, fields_cut}
 use Rattle.fields.specs.declared.Found.TheVariants.{Short}
 use Rattle.fields.specs.First.{first_at}
 use Rattle.fields.specs.Laws.{Stands, first_whole}
+use Rattle.writing.specs.Written.{written, Wrote, written_join}
 use Rattle.sheets.specs.Write.{shown, field_in}
 use Rattle.sheets.specs.Shown.{shown_size, sheet_size}
 
@@ -54,3 +55,8 @@ pub size_none : (book : List ℕ) (from : ℕ) → Over (fields_of (drop from bo
 unfolding sheet_size
 size_none book from (done e) = ap sheet_size e
 size_none book from (broken e) = ap sheet_size e
+
+-- one field more is written
+pub onward : (next : ℕ) (s rest all out exit : List ℕ) (r : ℕ) → Wrote next s out exit r → next ≤ length out → all ≡ s ++ rest → written r rest exit ≡ written next all out
+onward next s rest all out exit r w h e =
+    ap (λ (n : ℕ). written n rest exit) w.next ∙ ap (written (next + length s) rest) w.whole ∙ written_join next s rest out h ∙ ap (λ (l : List ℕ). written next l out) (sym e)

@@ -1,37 +1,24 @@
 -- What the line that begins at a place comes to, by its form: a refusal, or so many bytes.
 -- Assumes nothing.
 use Prim.Native.Nat.{ℕ, ◌+◌, ◌-◌, ◌≤◌}
-use mathlib.Core.Path.{◌≡◌, refl, sym, ap, ◌∙◌}
+use mathlib.Core.Path.{◌≡◌, ap, ◌∙◌}
 use mathlib.Core.Bool.{Bool, true, false, cond}
 use mathlib.Core.List.{List}
 use native.Mathlib.Omega.{arith}
-use borrow.Author.Tests.{eqb-true, eqb-false}
-use lib.Dec.{eqb}
 use lib.ListN.{length, drop}
 use Rattle.rules.specs.Text.{is}
-use Rattle.rules.specs.Book.{Step, Stop, Next}
-use Rattle.laws.specs.ByTest.{by_test}
+use Rattle.rules.specs.Book.{Step, Next}
 use Rattle.sheets.specs.Line.{one_of, four_of}
 use Rattle.sheets.specs.Places.{between, front_of, of_front, size_of, HasOne, HasFour}
-use Rattle.sheets.specs.Sizes.{number_of, one_field, four_fields, Fits, taken_as, Sizes}
+use Rattle.sheets.specs.Sizes.{Judges, fields_in, one_field, four_fields, Fits, Sizes}
+use Rattle.std.specs.Prelude.{Ok}
 use Rattle.sheets.proofs.Forms.{between_size}
 use Rattle.sheets.proofs.Makes.{one_good, one_length, four_good, four_length}
-
--- any other number is the line's refusal
-stopped : (l : Step (List ℕ)) → (number_of l ≡ 0 → ⊥) → l ≡ Stop (number_of l)
-stopped (Stop n) h = refl
-stopped (Next f) h = absurd (h refl)
 
 -- what the line that begins at a place comes to
 module _ (mark : ℕ) (s : List ℕ) (at : ℕ) where
   abbrev line : Step (List ℕ)
   line = of_front mark (front_of (drop at s))
-
-  taken_sizes : (n next size : ℕ) → n ≡ number_of line → (n ≡ 0 → Fits mark s at next size) → Sizes mark s at (taken_as n next size)
-  taken_sizes n next size e fits =
-      by_test (eqb n 0)
-      (λ t. rw t (fits (eqb-true n 0 t)))
-      (λ t. rw t (stopped line (λ z. eqb-false n 0 t (e ∙ z)) ∙ ap Stop (sym e)))
 
   module _ (tag end : ℕ) (has : HasOne s at tag end) where
     abbrev value : List ℕ
@@ -40,13 +27,13 @@ module _ (mark : ℕ) (s : List ℕ) (at : ℕ) where
     line_one : line ≡ one_of mark tag value
     line_one = ap (of_front mark) has.front
 
-    fits_one : number_of (one_of mark tag value) ≡ 0 → Fits mark s at (end + 1) (end + 1 - at)
-    fits_one e =
+    fits_one : (f : List ℕ) → one_of mark tag value ≡ Next f → Fits mark s at (end + 1) (end + 1 - at)
+    fits_one f e =
         let begins = has.begins in
         let ends = has.ends in
         record {
           fields = one_field mark tag value;
-          good = line_one ∙ one_good mark tag value e;
+          good = line_one ∙ one_good mark tag value f e;
           makes = omega (arith, one_length mark tag value, between_size (at + 2) end s (omega arith));
           ends = omega (arith, ap size_of has.front);
           forward = omega arith;
@@ -54,8 +41,8 @@ module _ (mark : ℕ) (s : List ℕ) (at : ℕ) where
           small = omega arith;
         }
 
-    pub sized_one : (n : ℕ) → n ≡ number_of (one_of mark tag value) → Sizes mark s at (taken_as n (end + 1) (end + 1 - at))
-    sized_one n e = taken_sizes n (end + 1) (end + 1 - at) (e ∙ ap number_of (sym line_one)) (λ z. fits_one (sym e ∙ z))
+    pub one_sized : Judges (one_of mark tag value) (Ok tt) → Sizes mark s at (Ok (record { next = end + 1; size = end + 1 - at }))
+    one_sized e = fits_one (fields_in (one_of mark tag value)) e
 
   module _ (tag a b c end : ℕ) (has : HasFour s at tag a b c end) where
     abbrev first : List ℕ
@@ -92,13 +79,13 @@ module _ (mark : ℕ) (s : List ℕ) (at : ℕ) where
     few true = omega arith
     few false = omega arith
 
-    fits_four : number_of (four_of mark tag first second third fourth) ≡ 0 → Fits mark s at (end + 1) (end - at + cond (is "I" tag) 7 1)
-    fits_four e =
+    fits_four : (f : List ℕ) → four_of mark tag first second third fourth ≡ Next f → Fits mark s at (end + 1) (end - at + cond (is "I" tag) 7 1)
+    fits_four f e =
         let begins = has.begins in
         let ends = has.ends in
         record {
           fields = four_fields mark tag first second third fourth;
-          good = line_four ∙ four_good mark tag first second third fourth e;
+          good = line_four ∙ four_good mark tag first second third fourth f e;
           makes = four_length mark tag first second third fourth ∙ size_four (is "I" tag);
           ends = omega (arith, ap size_of has.front);
           forward = omega arith;
@@ -106,6 +93,6 @@ module _ (mark : ℕ) (s : List ℕ) (at : ℕ) where
           small = omega (arith, few (is "I" tag), parts_size);
         }
 
-    pub sized_four : (n size : ℕ) → n ≡ number_of (four_of mark tag first second third fourth) → size ≡ end - at + cond (is "I" tag) 7 1 →
-        Sizes mark s at (taken_as n (end + 1) size)
-    sized_four n size e z = taken_sizes n (end + 1) size (e ∙ ap number_of (sym line_four)) (λ y. rw z (fits_four (sym e ∙ y)))
+    pub four_sized : (size : ℕ) → Judges (four_of mark tag first second third fourth) (Ok tt) → size ≡ end - at + cond (is "I" tag) 7 1 →
+        Sizes mark s at (Ok (record { next = end + 1; size = size }))
+    four_sized size e z = rw z (fits_four (fields_in (four_of mark tag first second third fourth)) e)

@@ -16,7 +16,8 @@ use Rattle.sheets.specs.declared.reading.Put.{Put}
 use Rattle.sheets.specs.Read.{Read, Bad, Made, first_of, lines_from}
 use Rattle.sheets.specs.Places.{front_of, size_of}
 use Rattle.sheets.specs.Fronts.{read_front}
-use Rattle.sheets.specs.Making.{fields_in, line_at, Ready, Puts, book_of, Takes}
+use Rattle.sheets.specs.Making.{line_at, Ready, Puts, Takes}
+use Rattle.sheets.specs.Sizes.{fields_in, book_of}
 
 pub record Left (mark : ℕ) (s : List ℕ) (at place : ℕ) (out entry book : List ℕ) : Type 0 where
   pub inside : at ≤ length s

@@ -8,10 +8,15 @@ use native.Mathlib.Omega.{arith}
 use borrow.Author.Tests.{eq-eqb, ne_eqb}
 use lib.ListN.{length, length-append, length-map}
 use Rattle.rules.specs.Text.{is}
-use Rattle.rules.specs.Book.{Stop, Next, refuse}
+use Rattle.rules.specs.Book.{Step, Stop, Next, refuse}
 use Rattle.sheets.specs.Mark.{in_book}
 use Rattle.sheets.specs.Line.{carried, figured, traded, field_of, strays, one_of, seat_of, trade_of, four_of}
-use Rattle.sheets.specs.Sizes.{number_of, one_field, four_fields}
+use Rattle.sheets.specs.Sizes.{one_field, four_fields}
+
+-- 0 for a line that is good
+abbrev number_of : Step (List ℕ) → ℕ
+number_of (Stop n) = n
+number_of (Next fields) = 0
 
 good_one : (x y z : Bool) (f g : List ℕ) → let l = cond x (Next f) (cond y (refuse 21 z (Next g)) (Stop 22)) in number_of l ≡ 0 → l ≡ Next (cond x f g)
 good_one true y z f g e = refl
@@ -26,8 +31,8 @@ good_four false true z true f g e = absurd (omega arith)
 good_four false true z false f g e = refl
 good_four false false z w f g e = absurd (omega arith)
 
-pub one_good : (mark t : ℕ) (v : List ℕ) → number_of (one_of mark t v) ≡ 0 → one_of mark t v ≡ Next (one_field mark t v)
-one_good mark t v e = good_one (carried t) (figured t) (strays mark v) (field_of t v) (field_of t (in_book mark v)) e
+pub one_good : (mark t : ℕ) (v f : List ℕ) → one_of mark t v ≡ Next f → one_of mark t v ≡ Next (one_field mark t v)
+one_good mark t v f e = good_one (carried t) (figured t) (strays mark v) (field_of t v) (field_of t (in_book mark v)) (ap number_of e)
 
 field_length : (mark t : ℕ) (v : List ℕ) → length (field_of t (in_book mark v)) ≡ 3 + length v
 field_length mark t v = rw length-map (omega arith)
@@ -43,8 +48,8 @@ four_append : (p q r s : List ℕ) → length (p ++ q ++ r ++ s) ≡ length p + 
 four_append p q r s = simp length-append (omega arith)
 
 module _ (mark t : ℕ) (a b c d : List ℕ) where
-  pub four_good : number_of (four_of mark t a b c d) ≡ 0 → four_of mark t a b c d ≡ Next (four_fields mark t a b c d)
-  four_good e = good_four (is "I" t) (traded t) (strays mark b || strays mark c || strays mark d) (strays mark a || strays mark b) (seat_of mark t a b c d) (field_of t (trade_of mark a b c d)) e
+  pub four_good : (f : List ℕ) → four_of mark t a b c d ≡ Next f → four_of mark t a b c d ≡ Next (four_fields mark t a b c d)
+  four_good f e = good_four (is "I" t) (traded t) (strays mark b || strays mark c || strays mark d) (strays mark a || strays mark b) (seat_of mark t a b c d) (field_of t (trade_of mark a b c d)) (ap number_of e)
 
   pub trade_length : length (trade_of mark a b c d) ≡ 3 + (length a + length b + length c + length d)
   trade_length = simp (length-append, length-map) (omega arith)

@@ -1,8 +1,8 @@
--- The number of a line's refusal, by the tests that the code makes; bytes side by side that are looked at in one go.
+-- What a line is judged to be, by the tests that the code makes; bytes side by side that are looked at in one go.
 -- Assumes nothing.
 use Prim.Native.Nat.{ℕ, zero, suc, ◌+◌, ◌-◌, ◌≤◌, ◌<◌}
-use mathlib.Core.Path.{◌≡◌, refl, sym, ap, ◌∙◌}
-use mathlib.Core.Bool.{Bool, true, false, cond, ◌||◌, or_assoc}
+use mathlib.Core.Path.{◌≡◌, refl, sym, ap, subst, ◌∙◌}
+use mathlib.Core.Bool.{Bool, true, false, ◌||◌, or_assoc}
 use mathlib.Core.List.{List, [], ◌∷◌, ◌++◌}
 use native.Mathlib.Nat.{zero-add, suc-add}
 use native.Mathlib.Omega.{arith}
@@ -10,39 +10,39 @@ use lib.Dec.{eqb}
 use lib.ListN.{length, get_or, take, drop, length-drop}
 use lib.Seq.{get_or-drop, drop-drop}
 use Rattle.rules.specs.Text.{is}
-use Rattle.rules.specs.Book.{Step, Next, refuse}
+use Rattle.rules.specs.Book.{Step}
 use Rattle.laws.specs.ByTest.{by_test}
-use Rattle.sheets.specs.Mark.{other, in_book, stands_in}
-use Rattle.sheets.specs.Line.{carried, figured, traded, field_of, strays, one_of, seat_of, trade_of, four_of}
-use Rattle.sheets.specs.Places.{between, HasFour}
-use Rattle.sheets.specs.Sizes.{number_of}
-
-refused : (b : Bool) (f : List ℕ) → cond b 21 0 ≡ number_of (refuse 21 b (Next f))
-refused true f = refl
-refused false f = refl
-
-of_cond : (b : Bool) (x y : Step (List ℕ)) (c : Bool) → b ≡ c → number_of (cond c x y) ≡ number_of (cond b x y)
-of_cond b x y c e = ap (λ (q : Bool). number_of (cond q x y)) (sym e)
+use Rattle.sheets.specs.Mark.{other, stands_in}
+use Rattle.sheets.specs.Line.{carried, figured, traded, strays, one_of, four_of}
+use Rattle.sheets.specs.Places.{between, HasParts}
+use Rattle.sheets.specs.Sizes.{Unstrayed, Judges}
+use Rattle.sheets.specs.declared.line.Parts.{Parts}
+use Rattle.sheets.specs.declared.refusal.SheetRule.{SheetRule}
+use Rattle.sheets.specs.declared.refusal.SheetRule.TheVariants.{NoLine}
+use Rattle.std.specs.Prelude.{Result, Ok, Err}
 
 module _ (mark t : ℕ) (v : List ℕ) where
-  pub one_carried : carried t ≡ true → 0 ≡ number_of (one_of mark t v)
-  one_carried e = of_cond (carried t) _ _ true e
+  pub one_carried : carried t ≡ true → Judges (one_of mark t v) (Ok tt)
+  one_carried e = rw e refl
 
-  pub one_other : carried t ≡ false → figured t ≡ false → 22 ≡ number_of (one_of mark t v)
-  one_other e f = of_cond (figured t) _ _ false f ∙ of_cond (carried t) _ _ false e
+  pub one_other : carried t ≡ false → figured t ≡ false → Judges (one_of mark t v) (Err NoLine)
+  one_other e f = rw (e, f) refl
 
-  pub one_figured : carried t ≡ false → figured t ≡ true → cond (stands_in (other mark) v) 21 0 ≡ number_of (one_of mark t v)
-  one_figured e f = refused (strays mark v) (field_of t (in_book mark v)) ∙ of_cond (figured t) _ _ true f ∙ of_cond (carried t) _ _ false e
+  pub one_figured : carried t ≡ false → figured t ≡ true → (r : Result (Unit {0}) SheetRule) → Unstrayed (strays mark v) r → Judges (one_of mark t v) r
+  one_figured e f (Ok u) h = rw (e, f, h) refl
+  one_figured e f (Err rule) h = rw (e, f, h.0, h.1) refl
 
 module _ (mark t : ℕ) (a b c d : List ℕ) where
-  pub four_seat : is "I" t ≡ true → cond (strays mark b || strays mark c || strays mark d) 21 0 ≡ number_of (four_of mark t a b c d)
-  four_seat e = refused (strays mark b || strays mark c || strays mark d) (seat_of mark t a b c d) ∙ of_cond (is "I" t) _ _ true e
+  four_seat : is "I" t ≡ true → (r : Result (Unit {0}) SheetRule) → Unstrayed (strays mark b || strays mark c || strays mark d) r → Judges (four_of mark t a b c d) r
+  four_seat e (Ok u) h = rw (e, h) refl
+  four_seat e (Err rule) h = rw (e, h.0, h.1) refl
 
-  pub four_other : is "I" t ≡ false → traded t ≡ false → 22 ≡ number_of (four_of mark t a b c d)
-  four_other e f = of_cond (traded t) _ _ false f ∙ of_cond (is "I" t) _ _ false e
+  four_other : is "I" t ≡ false → traded t ≡ false → Judges (four_of mark t a b c d) (Err NoLine)
+  four_other e f = rw (e, f) refl
 
-  pub four_trade : is "I" t ≡ false → traded t ≡ true → cond (strays mark a || strays mark b) 21 0 ≡ number_of (four_of mark t a b c d)
-  four_trade e f = refused (strays mark a || strays mark b) (field_of t (trade_of mark a b c d)) ∙ of_cond (traded t) _ _ true f ∙ of_cond (is "I" t) _ _ false e
+  four_trade : is "I" t ≡ false → traded t ≡ true → (r : Result (Unit {0}) SheetRule) → Unstrayed (strays mark a || strays mark b) r → Judges (four_of mark t a b c d) r
+  four_trade e f (Ok u) h = rw (e, f, h) refl
+  four_trade e f (Err rule) h = rw (e, f, h.0, h.1) refl
 
 -- one more byte than m and n others
 take_parted : (u : List ℕ) (m n : ℕ) → m < length u → take (suc (m + n)) u ≡ take m u ++ get_or u m 0 ∷ take n (drop (suc m) u)
@@ -79,24 +79,27 @@ module _ (mark : ℕ) (s : List ℕ) (a c e : ℕ) where
       ∙ ap (λ (b : Bool). strays mark (between a c s) || (b || strays mark (between (c + 1) e s))) (semicolon mark)
 
 -- a line of four parts
-module _ (mark : ℕ) (s : List ℕ) (at t a b c e : ℕ) (has : HasFour s at t a b c e) where
-  abbrev of_four : ℕ
-  of_four = number_of (four_of mark t (between (at + 2) a s) (between (a + 1) b s) (between (b + 1) c s) (between (c + 1) e s))
+module _ (mark : ℕ) (s : List ℕ) (at t : ℕ) (p : Parts) (has : HasParts s at t p) where
+  abbrev of_four : Step (List ℕ)
+  of_four = four_of mark t (between (at + 2) p.first s) (between (p.first + 1) p.second s) (between (p.second + 1) p.third s) (between (p.third + 1) p.end s)
 
-  pub seat_number : is "I" t ≡ true → cond (strays mark (between (a + 1) e s)) 21 0 ≡ of_four
-  seat_number i =
+  pub seat_judged : is "I" t ≡ true → (r : Result (Unit {0}) SheetRule) → Unstrayed (strays mark (between (p.first + 1) p.end s)) r → Judges of_four r
+  seat_judged i r h =
       let end = has.ends in
-      let split = stray_parts mark s (a + 1) b e has.parted.1 (omega arith) (omega arith) (omega arith) in
-      let rest = stray_parts mark s (b + 1) c e has.parted.2 (omega arith) (omega arith) (omega arith) in
-      ap (λ (x : Bool). cond x 21 0)
-      (split ∙ ap (λ (x : Bool). strays mark (between (a + 1) b s) || x) rest
-      ∙ sym (or_assoc (strays mark (between (a + 1) b s)) (strays mark (between (b + 1) c s)) (strays mark (between (c + 1) e s))))
-      ∙ four_seat mark t (between (at + 2) a s) (between (a + 1) b s) (between (b + 1) c s) (between (c + 1) e s) i
+      let split = stray_parts mark s (p.first + 1) p.second p.end has.parted.1 (omega arith) (omega arith) (omega arith) in
+      let rest = stray_parts mark s (p.second + 1) p.third p.end has.parted.2 (omega arith) (omega arith) (omega arith) in
+      four_seat mark t (between (at + 2) p.first s) (between (p.first + 1) p.second s) (between (p.second + 1) p.third s) (between (p.third + 1) p.end s) i r
+      (subst (λ (x : Bool). Unstrayed x r)
+      (split ∙ ap (λ (x : Bool). strays mark (between (p.first + 1) p.second s) || x) rest
+      ∙ sym (or_assoc (strays mark (between (p.first + 1) p.second s)) (strays mark (between (p.second + 1) p.third s)) (strays mark (between (p.third + 1) p.end s))))
+      h)
 
-  pub trade_number : is "I" t ≡ false → traded t ≡ true → cond (strays mark (between (at + 2) b s)) 21 0 ≡ of_four
-  trade_number i j =
-      ap (λ (x : Bool). cond x 21 0) (stray_parts mark s (at + 2) a b has.parted.0 (omega arith) (omega arith) (omega arith))
-      ∙ four_trade mark t (between (at + 2) a s) (between (a + 1) b s) (between (b + 1) c s) (between (c + 1) e s) i j
+  pub trade_judged : is "I" t ≡ false → traded t ≡ true → (r : Result (Unit {0}) SheetRule) → Unstrayed (strays mark (between (at + 2) p.second s)) r → Judges of_four r
+  trade_judged i j r h =
+      let end = has.ends in
+      four_trade mark t (between (at + 2) p.first s) (between (p.first + 1) p.second s) (between (p.second + 1) p.third s) (between (p.third + 1) p.end s) i j r
+      (subst (λ (x : Bool). Unstrayed x r) (stray_parts mark s (at + 2) p.first p.second has.parted.0 (omega arith) (omega arith) (omega arith)) h)
 
-  pub other_number : is "I" t ≡ false → traded t ≡ false → 22 ≡ of_four
-  other_number i j = four_other mark t (between (at + 2) a s) (between (a + 1) b s) (between (b + 1) c s) (between (c + 1) e s) i j
+  pub other_judged : is "I" t ≡ false → traded t ≡ false → Judges of_four (Err NoLine)
+  other_judged i j =
+      four_other mark t (between (at + 2) p.first s) (between (p.first + 1) p.second s) (between (p.second + 1) p.third s) (between (p.third + 1) p.end s) i j

@@ -11,9 +11,10 @@ use lib.ListN.{length, get_or, length-append, length-map}
 use Rattle.laws.specs.ByTest.{by_test, not_either}
 use Rattle.sheets.specs.Mark.{respelt, respelled, in_book, stands_in}
 use Rattle.sheets.specs.Line.{field_of, seat_of, trade_of}
-use Rattle.sheets.specs.Places.{between, Plain, HasFour}
+use Rattle.sheets.specs.Places.{between, Plain, HasParts}
 use Rattle.sheets.specs.Put.{trade_in, four_at}
 use Rattle.sheets.proofs.Numbers.{between_parted}
+use Rattle.sheets.specs.declared.line.Parts.{Parts}
 
 respelled_append : (from to : ℕ) (p q : List ℕ) → respelled from to (p ++ q) ≡ respelled from to p ++ respelled from to q
 respelled_append from to [] q = refl
@@ -56,42 +57,42 @@ field_of_lem : (t n : ℕ) (v w : List ℕ) → v ≡ w → n ≡ length v → t
 field_of_lem t n v w e f = ap (λ (k : ℕ). t ∷ k / 256 ∷ k % 256 ∷ v) f ∙ ap (field_of t) e
 
 -- a line of four parts
-module _ (mark : ℕ) (s : List ℕ) (at t a b c e : ℕ) (has : HasFour s at t a b c e) where
+module _ (mark : ℕ) (s : List ℕ) (at t : ℕ) (p : Parts) (has : HasParts s at t p) where
   abbrev price : List ℕ
-  price = between (at + 2) a s
+  price = between (at + 2) p.first s
 
   abbrev lots : List ℕ
-  lots = between (a + 1) b s
+  lots = between (p.first + 1) p.second s
 
   abbrev day : List ℕ
-  day = between (b + 1) c s
+  day = between (p.second + 1) p.third s
 
   abbrev time : List ℕ
-  time = between (c + 1) e s
+  time = between (p.third + 1) p.end s
 
-  figures_at : between (at + 2) b s ≡ price ++ 59 ∷ lots
+  figures_at : between (at + 2) p.second s ≡ price ++ 59 ∷ lots
   figures_at =
-      between_parted s (at + 2) a b (omega arith) (omega arith) (omega arith) ∙ ap (λ (x : ℕ). price ++ x ∷ lots) has.parted.0
+      between_parted s (at + 2) p.first p.second (omega arith) (omega arith) (omega arith) ∙ ap (λ (x : ℕ). price ++ x ∷ lots) has.parted.0
 
-  day_at : between b e s ≡ 59 ∷ (day ++ 59 ∷ time)
+  day_at : between p.second p.end s ≡ 59 ∷ (day ++ 59 ∷ time)
   day_at =
-      between_parted s b b e (omega arith) (omega arith) (omega arith)
-      ∙ ap (λ (v : List ℕ). v ++ get_or s b 0 ∷ between (b + 1) e s) (between_none b s)
+      between_parted s p.second p.second p.end (omega arith) (omega arith) (omega arith)
+      ∙ ap (λ (v : List ℕ). v ++ get_or s p.second 0 ∷ between (p.second + 1) p.end s) (between_none p.second s)
       ∙ ap₂ (λ (x : ℕ) (v : List ℕ). x ∷ v) has.parted.1
-      (between_parted s (b + 1) c e (omega arith) (omega arith) (omega arith) ∙ ap (λ (x : ℕ). day ++ x ∷ time) has.parted.2)
+      (between_parted s (p.second + 1) p.third p.end (omega arith) (omega arith) (omega arith) ∙ ap (λ (x : ℕ). day ++ x ∷ time) has.parted.2)
 
-  trade_at : eqb 59 mark ≡ false → trade_in mark t (between (at + 2) b s) (between b e s) ≡ field_of t (trade_of mark price lots day time)
+  trade_at : eqb 59 mark ≡ false → trade_in mark t (between (at + 2) p.second s) (between p.second p.end s) ≡ field_of t (trade_of mark price lots day time)
   trade_at unlike =
-      field_of_lem t (length (between (at + 2) b s) + length (between b e s)) _ _
+      field_of_lem t (length (between (at + 2) p.second s) + length (between p.second p.end s)) _ _
       (ap₂ (λ (v w : List ℕ). respelled 59 32 (in_book mark v) ++ respelled 59 32 w) figures_at day_at
       ∙ trade_parted mark unlike price lots day time has.plain.0 has.plain.1 has.plain.2 has.plain.3)
-      (sym (parts_length mark (between (at + 2) b s) (between b e s)))
+      (sym (parts_length mark (between (at + 2) p.second s) (between p.second p.end s)))
 
-  pub trade_fields : eqb 59 mark ≡ false → (t ≡ 73 → ⊥) → trade_in mark t (between (at + 2) b s) (between b e s) ≡ four_at mark s at t a b c e
+  pub trade_fields : eqb 59 mark ≡ false → (t ≡ 73 → ⊥) → trade_in mark t (between (at + 2) p.second s) (between p.second p.end s) ≡ four_at mark s at t p
   trade_fields unlike h =
       trade_at unlike ∙ ap (λ (x : Bool). cond x (seat_of mark t price lots day time) (field_of t (trade_of mark price lots day time))) (sym (ne_eqb t 73 h))
 
-  pub seat_fields : t ≡ 73 → seat_of mark 73 price lots day time ≡ four_at mark s at t a b c e
+  pub seat_fields : t ≡ 73 → seat_of mark 73 price lots day time ≡ four_at mark s at t p
   seat_fields h =
       ap (λ (n : ℕ). seat_of mark n price lots day time) (sym h)
       ∙ ap (λ (x : Bool). cond x (seat_of mark t price lots day time) (field_of t (trade_of mark price lots day time))) (sym (eq-eqb t 73 h))

@@ -1,21 +1,17 @@
 -- What the code says of the book that it makes: a line's fields, where they are written, and what is answered and left in the lent buffer.
 -- Assumes nothing.
-use Rattle.std.specs.Prelude.{ℕ, ◌+◌, ◌≤◌, ◌<◌, ◌≡◌, List, [], ◌∷◌, Bool, true, false, cond, ◌&&◌, length, drop, ltb, eqb}
+use Rattle.std.specs.Prelude.{ℕ, ◌+◌, ◌≤◌, ◌<◌, ◌≡◌, List, false, cond, length, drop, ltb, eqb, Result}
 use Rattle.rules.specs.Limits.{longest_book}
-use Rattle.rules.specs.Book.{Step, Stop, Next}
+use Rattle.rules.specs.Book.{Step, Next}
 use Rattle.days.specs.Lines.{lines_of}
 use Rattle.writing.specs.Written.{Room, Wrote, written}
 use Rattle.sheets.specs.declared.reading.Put.{Put}
-use Rattle.sheets.specs.declared.reading.Made.{Made}
-use Rattle.sheets.specs.declared.reading.Made.TheVariants.{Book, Refused}
+use Rattle.sheets.specs.declared.refusal.Refusal.{Refusal}
 use Rattle.sheets.specs.Refusal as refusal
 use Rattle.sheets.specs.Read.{Read, Bad, lines_from}
 use Rattle.sheets.specs.Read.{Made as Whole}
 use Rattle.sheets.specs.Places.{front_of, of_front, size_of}
-
-abbrev pub fields_in : Step (List ℕ) → List ℕ
-fields_in (Stop n) = []
-fields_in (Next fields) = fields
+use Rattle.sheets.specs.Sizes.{fields_in, book_of, Tells}
 
 -- what the line that begins at a place comes to
 abbrev pub line_at : ℕ → List ℕ → ℕ → Step (List ℕ)
@@ -36,10 +32,6 @@ pub record Puts (mark : ℕ) (s : List ℕ) (at place : ℕ) (entry exit : List 
   pub forward : at < r.next
   pub within : r.next ≤ length s
 
-abbrev pub book_of : Read → List ℕ
-book_of (Bad n place) = []
-book_of (Whole book) = book
-
 -- the lines from a place on make a book that fits into the buffer
 pub record Takes (mark : ℕ) (s : List ℕ) (start : ℕ) (buffer : List ℕ) : Type 0 where
   pub inside : start ≤ length s
@@ -48,21 +40,15 @@ pub record Takes (mark : ℕ) (s : List ℕ) (start : ℕ) (buffer : List ℕ) :
   pub room : Room 0 (book_of (lines_from mark 2 (lines_of (drop start s)))) buffer
   pub unlike : eqb 59 mark ≡ false
 
--- some bytes begin with a word
-abbrev pub begins : List ℕ → List ℕ → Bool
-begins [] s = true
-begins (x ∷ word) [] = false
-begins (x ∷ word) (y ∷ s) = eqb y x && begins word s
-
 -- what is answered, and what stands in a buffer afterwards that had `entry`
-abbrev pub made_in : ℕ → Read → Made
-made_in room (Bad n place) = Refused n place
-made_in room (Whole book) = cond (ltb room (length book)) (Refused refusal.no_result 0) (Book (length book))
+abbrev pub made_in : ℕ → Read → Read
+made_in room (Bad n place) = Bad n place
+made_in room (Whole book) = cond (ltb room (length book)) (Bad refusal.no_result 0) (Whole book)
 
 abbrev pub left_in : List ℕ → Read → List ℕ
 left_in entry (Bad n place) = entry
 left_in entry (Whole book) = cond (ltb (length entry) (length book)) entry (written 0 book entry)
 
-pub record Makes (r : Read) (entry exit : List ℕ) (made : Made) : Type 0 where
-  pub answer : made ≡ made_in (length entry) r
+pub record Makes (r : Read) (entry exit : List ℕ) (made : Result ℕ Refusal) : Type 0 where
+  pub answer : Tells (made_in (length entry) r) made
   pub buffer : exit ≡ left_in entry r

@@ -1,10 +1,11 @@
 -- What the code says of a sheet by places in its bytes: where a part ends, and the parts of the line that begins at a place.
 -- Assumes nothing.
-use Rattle.std.specs.Prelude.{ℕ, suc, ◌+◌, ◌-◌, ◌≤◌, ◌<◌, ◌≡◌, List, [], ◌∷◌, Bool, false, cond, ◌||◌, length, get_or, take, drop, eqb}
+use Rattle.std.specs.Prelude.{ℕ, suc, ◌+◌, ◌-◌, ◌≤◌, ◌<◌, ◌≡◌, List, [], ◌∷◌, Bool, true, false, cond, ◌||◌, length, get_or, take, drop, eqb, Option, Some, None}
 use Rattle.rules.specs.Text.{is}
 use Rattle.rules.specs.Book.{Step, Stop}
-use Rattle.sheets.specs.declared.line.Form.{Form}
-use Rattle.sheets.specs.declared.line.Form.TheVariants.{One, Four, Bad}
+use Rattle.sheets.specs.declared.line.Line.{Line}
+use Rattle.sheets.specs.declared.line.Line.TheVariants.{One, Four}
+use Rattle.sheets.specs.declared.line.Parts.{Parts as Ends}
 use Rattle.sheets.specs.Refusal as refusal
 use Rattle.sheets.specs.Mark.{stands_in}
 use Rattle.sheets.specs.Line.{onto, of_parts}
@@ -21,6 +22,11 @@ stopless (x ∷ v) = cond (stops x) [] (x ∷ stopless v)
 abbrev pub leads : ℕ → List ℕ → Bool
 leads b [] = false
 leads b (x ∷ v) = eqb x b
+
+-- where the part ends that begins at a place; none where another byte stands there
+abbrev pub PartUpTo : List ℕ → ℕ → ℕ → Option ℕ → Type 0
+PartUpTo s from b None = leads b (drop (from + length (stopless (drop from s))) s) ≡ false
+PartUpTo s from b (Some end) = (end ≡ from + length (stopless (drop from s))) × (leads b (drop end s) ≡ true)
 
 -- the bytes from one place up to another, as Rattle has a part of a slice
 abbrev pub between : ℕ → ℕ → List ℕ → List ℕ
@@ -73,10 +79,13 @@ pub record HasFour (s : List ℕ) (at tag a b c end : ℕ) : Type 0 where
   pub parted : (get_or s a 0 ≡ 59) × (get_or s b 0 ≡ 59) × (get_or s c 0 ≡ 59)
   pub plain : Plain (between (at + 2) a s) × Plain (between (a + 1) b s) × Plain (between (b + 1) c s) × Plain (between (c + 1) end s)
 
-abbrev pub Shows : List ℕ → ℕ → Form → Type 0
-Shows s at (One tag end) = HasOne s at tag end
-Shows s at (Four tag a b c end) = HasFour s at tag a b c end
-Shows s at Bad = (mark : ℕ) → of_front mark (front_of (drop at s)) ≡ Stop refusal.no_line
+abbrev pub HasParts : List ℕ → ℕ → ℕ → Ends → Type 0
+HasParts s at tag p = HasFour s at tag p.first p.second p.third p.end
+
+abbrev pub Shows : List ℕ → ℕ → Option Line → Type 0
+Shows s at (Some (One tag end)) = HasOne s at tag end
+Shows s at (Some (Four tag parts)) = HasParts s at tag parts
+Shows s at None = (mark : ℕ) → of_front mark (front_of (drop at s)) ≡ Stop refusal.no_line
 
 -- a line's letter and its first part are read, and a semicolon follows
 pub record Begun (s : List ℕ) (at a : ℕ) : Type 0 where

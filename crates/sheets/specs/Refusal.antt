@@ -1,6 +1,9 @@
 -- docs/SHEETS.md. Request [8], "Refusals, in the sheet tool only": a name for each number; 1 is the book's. Brought in as `refusal`.
 -- Assumes nothing.
 use Rattle.std.specs.Prelude.{ℕ}
+use Rattle.rules.specs.Refusal.{too_long}
+use Rattle.sheets.specs.declared.refusal.SheetRule.{SheetRule}
+use Rattle.sheets.specs.declared.refusal.SheetRule.TheVariants.{TooLong, NoMark, OtherMark, NoLine, NoResult}
 
 -- "20 no mark line"
 abbrev pub no_mark : ℕ
@@ -17,3 +20,11 @@ no_line = 22
 -- "23 no room for the result"
 abbrev pub no_result : ℕ
 no_result = 23
+
+-- the number of each rule, as code names it
+abbrev pub number_of : SheetRule → ℕ
+number_of TooLong = too_long
+number_of NoMark = no_mark
+number_of OtherMark = other_mark
+number_of NoLine = no_line
+number_of NoResult = no_result

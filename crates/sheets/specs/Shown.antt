@@ -1,7 +1,7 @@
 -- What the code that writes a sheet cites: a value by the byte that its points and the one that its blanks become; how long a field is in a
 -- sheet, whatever the mark; and what a verdict comes to.
 -- Assumes nothing.
-use Rattle.std.specs.Prelude.{ℕ, ◌+◌, ◌≤◌, ◌≡◌, refl, cond, ◌||◌, List, [], ◌∷◌, map, length, eqb}
+use Rattle.std.specs.Prelude.{ℕ, ◌+◌, ◌≤◌, ◌≡◌, refl, cond, ◌||◌, List, [], ◌∷◌, map, length, eqb, Result, Ok, Err}
 use Prim.Native.Char.{code}
 use Rattle.std.proofs.Common.{sym, ap, ap₂, ◌∙◌, arith, length-append, eqb-true}
 use Rattle.std.proofs.lemmas.List.{length-map}
@@ -12,15 +12,18 @@ use Rattle.rules.specs.Fields.{Field, Whole, Cut, fields_of}
 use Rattle.rules.specs.Book.{Verdict, Refused, Accepted}
 use Rattle.laws.specs.ByTest.{by_test}
 use Rattle.fields.specs.declared.Refusal.{Refusal}
-use Rattle.fields.specs.Reading.{refused_at, no_refusal}
 use Rattle.sheets.specs.Mark.{respelt, respelled, in_sheet}
 use Rattle.sheets.specs.Line.{figured, traded}
 use Rattle.sheets.specs.Write.{value_in, line_in, shown, field_in, sheet_of}
 
--- the number and the place of what was judged; 0 and 0 of an accepted book
-abbrev pub refusal_of : Verdict → Refusal
-refusal_of (Refused n place) = refused_at n place
-refusal_of (Accepted terms cs) = no_refusal
+-- the number and the place of what was judged; none of an accepted book
+abbrev pub IsAccepted : Verdict → Type 0
+IsAccepted (Refused n place) = ⊥
+IsAccepted (Accepted terms cs) = Unit {0}
+
+abbrev pub JudgedSo : Verdict → Result (Unit {0}) Refusal → Type 0
+JudgedSo v (Ok u) = IsAccepted v
+JudgedSo v (Err r) = v ≡ Refused r.number r.place
 
 -- a byte with its point, and then its blank, become others
 abbrev pub spelt : ℕ → ℕ → ℕ → ℕ

@@ -5,7 +5,7 @@ mod judging;
 mod line;
 mod putting;
 mod reading;
-pub mod refusal;
+mod refusal;
 mod shown;
 mod sizing;
 mod spelling;
@@ -17,32 +17,21 @@ ghost use Rattle.sheets.specs.Answers.{to_book, to_sheet};
 
 use answers::Answer;
 use judging::judge;
-use reading::{Made, make_book};
+use reading::make_book;
+use refusal::SheetRule;
 use shown::{put_sheet, sheet_size};
 
 fn no_mark(mark: u8) -> bool
     ensures { result ≡ not (is_mark mark) }
 {
-    if mark == b',' {
-        return false;
-    }
-    if mark == b'.' {
-        return false;
-    }
-    true
+    !matches!(mark, b',' | b'.')
 }
 
 // Whether a sheet of so many bytes behind its first line has no room.
 fn lacks_room(room: usize, size: usize) -> bool
     ensures { result ≡ ltb room (6 + size) }
 {
-    if room < shown::MARK_LINE {
-        return true;
-    }
-    if room - shown::MARK_LINE < size {
-        return true;
-    }
-    false
+    room < shown::MARK_LINE || room - shown::MARK_LINE < size
 }
 
 // A sheet and a lent buffer: the answer, and the book that the sheet makes at the front of the buffer, accepted or refused.
@@ -50,19 +39,15 @@ pub fn sheet_to_book(sheet: &[u8], book: &mut [u8]) -> Answer
     ensures { Answered (to_book sheet.now (length book.old)) result book.old book.new }
 {
     match make_book(sheet, book) {
-        Made::Book(length) => {
-            let judged = judge(&book[..length]);
-            Answer {
-                number: judged.number,
-                place: judged.place as u64,
+        Ok(length) => match judge(&book[..length]) {
+            Ok(()) => Answer::accepted(length),
+            Err(refusal) => Answer {
+                number: refusal.number,
+                place: refusal.place as u64,
                 length: length as u64,
-            }
-        }
-        Made::Refused { number, place } => Answer {
-            number,
-            place: place as u64,
-            length: 0,
+            },
         },
+        Err(refusal) => Answer::refused(refusal.rule.number(), refusal.place),
     }
 }
 
@@ -71,31 +56,14 @@ pub fn book_to_sheet(book: &[u8], mark: u8, sheet: &mut [u8]) -> Answer
     ensures { Answered (to_sheet book.now mark (length sheet.old)) result sheet.old sheet.new }
 {
     if no_mark(mark) {
-        return Answer {
-            number: refusal::NO_MARK,
-            place: 0,
-            length: 0,
-        };
+        return Answer::refused(SheetRule::NoMark.number(), 0);
     }
-    let judged = judge(book);
-    if judged.number != rules::refusal::ACCEPTED {
-        return Answer {
-            number: judged.number,
-            place: judged.place as u64,
-            length: 0,
-        };
+    if let Err(refusal) = judge(book) {
+        return Answer::refused(refusal.number, refusal.place);
     }
     if lacks_room(sheet.len(), sheet_size(book)) {
-        return Answer {
-            number: refusal::NO_RESULT,
-            place: 0,
-            length: 0,
-        };
+        return Answer::refused(SheetRule::NoResult.number(), 0);
     }
     let length = put_sheet(sheet, book, mark);
-    Answer {
-        number: rules::refusal::ACCEPTED,
-        place: 0,
-        length: length as u64,
-    }
+    Answer::accepted(length)
 }

@@ -7,6 +7,7 @@ ghost use Rattle.sheets.specs.Line.{field_of, seat_of};
 ghost use Rattle.sheets.specs.Sizes.{one_field};
 ghost use Rattle.sheets.specs.Put.{trade_in, four_at, Four};
 
+use crate::line::Parts;
 use crate::sizing::carried;
 use crate::spelling::{put_parts, put_respelled};
 use rules::tag;
@@ -73,36 +74,35 @@ pub fn put_four(
     sheet: &[u8],
     at: usize,
     tag: u8,
-    first: usize,
-    second: usize,
-    third: usize,
-    end: usize,
+    parts: Parts,
     mark: u8,
 ) -> usize
-    requires { Four mark sheet.now at tag first second third end place out.old }
-    ensures { Wrote place (four_at mark sheet.now at tag first second third end) out.old out.new result }
+    requires { Four mark sheet.now at tag parts place out.old }
+    ensures { Wrote place (four_at mark sheet.now at tag parts) out.old out.new result }
 {
-    let from = at + 2;
+    let Parts {
+        first,
+        second,
+        third,
+        end,
+    } = parts;
     if tag != tag::I {
         return put_trade(
             out,
             place,
             tag,
-            &sheet[from..second],
+            &sheet[at + 2..second],
             &sheet[second..end],
             mark,
         );
     }
-    let k = first + 1;
-    let h = second + 1;
-    let q = third + 1;
     put_seat(
         out,
         place,
-        &sheet[from..first],
-        &sheet[k..second],
-        &sheet[h..third],
-        &sheet[q..end],
+        &sheet[at + 2..first],
+        &sheet[first + 1..second],
+        &sheet[second + 1..third],
+        &sheet[third + 1..end],
         mark,
     )
 }

@@ -7,7 +7,7 @@ ghost use Rattle.sheets.specs.Write.{value_in, line_in, part_in, shown, field_in
 ghost use Rattle.sheets.specs.Shown.{spelt, shown_size, sheet_size, Small};
 
 use crate::sizing::{figured, traded};
-use crate::spelling::respelt;
+use crate::spelling::{put_each, respelt};
 use fields::Found;
 use rules::tag;
 use writing::{put_byte, put_bytes};
@@ -20,37 +20,25 @@ fn shown_size(tag: u8, size: usize) -> usize
     requires { Small size }
     ensures { result ≡ shown_size tag size }
 {
-    if tag == tag::I {
-        return size + 2;
+    match tag {
+        tag::I | tag::Q => size + 2,
+        tag::K | tag::H => size + 1,
+        tag::Z => 0,
+        _ => size + 3,
     }
-    if tag == tag::K {
-        return size + 1;
-    }
-    if tag == tag::H {
-        return size + 1;
-    }
-    if tag == tag::Q {
-        return size + 2;
-    }
-    if tag == tag::Z {
-        return 0;
-    }
-    size + 3
 }
 
 // How long a book is as a sheet, its first line aside.
 pub fn sheet_size(book: &[u8]) -> usize
     ensures { result ≡ sheet_size (fields_of book.now) }
 {
-    let mut size: usize = 0;
-    let mut at: usize = 0;
-    loop {
-        let Found::Field { tag, start, end } = fields::field_at(book, at) else {
-            return size;
-        };
+    let mut size = 0;
+    let mut at = 0;
+    while let Found::Field { tag, start, end } = fields::field_at(book, at) {
         size += shown_size(tag, end - start);
         at = end;
     }
+    size
 }
 
 // A value whose points and blanks become other bytes.
@@ -58,13 +46,9 @@ fn put_spelt(out: &mut [u8], at: usize, s: &[u8], mark: u8, blank: u8) -> usize
     requires { Room at s.now out.old }
     ensures { Wrote at (map (spelt mark blank) s.now) out.old out.new result }
 {
-    let mut i = 0;
-    while i < s.len() {
-        let unmarked = respelt(s[i], b'.', mark);
-        out[at + i] = respelt(unmarked, b' ', blank);
-        i += 1;
-    }
-    at + i
+    put_each(out, at, s, |byte| {
+        respelt(respelt(byte, b'.', mark), b' ', blank)
+    })
 }
 
 // A value that has a line to itself.
@@ -106,24 +90,19 @@ fn put_shown(out: &mut [u8], at: usize, mark: u8, tag: u8, value: &[u8]) -> usiz
     requires { at + shown_size tag (length value.now) ≤ length out.old }
     ensures { Wrote at (shown mark tag value.now) out.old out.new result }
 {
-    if tag == tag::I {
-        let part = put_byte(out, at, tag);
-        return put_part(out, part, value);
+    match tag {
+        tag::I => {
+            let part = put_byte(out, at, tag);
+            put_part(out, part, value)
+        }
+        tag::K | tag::H => put_part(out, at, value),
+        tag::Q => {
+            let lots = put_part(out, at, value);
+            put_byte(out, lots, b'\n')
+        }
+        tag::Z => at,
+        _ => put_line(out, at, mark, tag, value),
     }
-    if tag == tag::K {
-        return put_part(out, at, value);
-    }
-    if tag == tag::H {
-        return put_part(out, at, value);
-    }
-    if tag == tag::Q {
-        let end = put_part(out, at, value);
-        return put_byte(out, end, b'\n');
-    }
-    if tag == tag::Z {
-        return at;
-    }
-    put_line(out, at, mark, tag, value)
 }
 
 // The fields of a book, one behind the other.
@@ -132,14 +111,12 @@ fn put_fields(out: &mut [u8], at: usize, book: &[u8], mark: u8) -> usize
     ensures { Wrote at (joined (field_in mark) (fields_of book.now)) out.old out.new result }
 {
     let mut next = at;
-    let mut from: usize = 0;
-    loop {
-        let Found::Field { tag, start, end } = fields::field_at(book, from) else {
-            return next;
-        };
+    let mut from = 0;
+    while let Found::Field { tag, start, end } = fields::field_at(book, from) {
         next = put_shown(out, next, mark, tag, &book[start..end]);
         from = end;
     }
+    next
 }
 
 // A book as a sheet, at the front of a buffer that has room for it.

@@ -3,30 +3,22 @@ ghost use Rattle.std.specs.Prelude.{◌≡◌, cond, ◌≤◌, ◌<◌, ◌+◌
 ghost use Rattle.rules.specs.Text.{is};
 ghost use Rattle.rules.specs.Limits.{longest_book};
 ghost use Rattle.days.specs.Lines.{lines_of};
-ghost use Rattle.sheets.specs.Refusal.{other_mark};
-ghost use Rattle.sheets.specs.Mark.{other, stands_in};
-ghost use Rattle.sheets.specs.Line.{carried, figured, traded, one_of, four_of};
+ghost use Rattle.sheets.specs.Mark.{other};
+ghost use Rattle.sheets.specs.Line.{carried, figured, traded, strays, one_of, four_of};
 ghost use Rattle.sheets.specs.Read.{lines_from};
-ghost use Rattle.sheets.specs.Places.{between, HasFour};
-ghost use Rattle.sheets.specs.Sizes.{number_of, taken_as, Sizes, sized_of};
+ghost use Rattle.sheets.specs.Places.{between, HasParts};
+ghost use Rattle.sheets.specs.Sizes.{Judges, Unstrayed, Sizes, Tells};
 
-use crate::line::{Form, form_at};
-use crate::refusal;
+use crate::line::{Line, Parts, line_at};
+use crate::refusal::{Refusal, SheetRule};
 use crate::spelling::stands_in;
 use rules::tag;
 
-// A line: where the next one begins, and how many bytes it makes; or the number of its refusal.
+// A line that is good: where the next one begins, and how many bytes it makes.
 #[derive(Clone, Copy)]
-pub enum Sized {
-    Good { next: usize, size: usize },
-    Bad(u64),
-}
-
-// All lines: how many bytes they make; or the first refusal.
-#[derive(Clone, Copy)]
-pub enum Size {
-    Length(usize),
-    Refused { number: u64, place: usize },
+pub struct Sized {
+    pub next: usize,
+    pub size: usize,
 }
 
 // The bytes of Z, which ends the book.
@@ -43,86 +35,57 @@ fn other(mark: u8) -> u8
 pub fn carried(tag: u8) -> bool
     ensures { result ≡ carried tag }
 {
-    if tag == tag::D {
-        return true;
-    }
-    if tag == tag::X {
-        return true;
-    }
-    tag == tag::C
+    matches!(tag, tag::D | tag::X | tag::C)
 }
 
 pub fn figured(tag: u8) -> bool
     ensures { result ≡ figured tag }
 {
-    if tag == tag::S {
-        return true;
-    }
-    if tag == tag::L {
-        return true;
-    }
-    if tag == tag::U {
-        return true;
-    }
-    tag == tag::V
+    matches!(tag, tag::S | tag::L | tag::U | tag::V)
 }
 
 pub fn traded(tag: u8) -> bool
     ensures { result ≡ traded tag }
 {
-    if tag == tag::B {
-        return true;
-    }
-    tag == tag::A
+    matches!(tag, tag::B | tag::A)
 }
 
-// 21 where the other mark stands among the bytes of figures, and 0 where it does not.
-fn stray_number(bytes: &[u8], mark: u8) -> u64
-    ensures { result ≡ cond (stands_in (other mark) bytes.now) other_mark 0 }
+// The other mark is refused among the bytes of figures.
+fn judge_figures(bytes: &[u8], mark: u8) -> Result<(), SheetRule>
+    ensures { Unstrayed (strays mark bytes.now) result }
 {
     if stands_in(other(mark), bytes) {
-        refusal::OTHER_MARK
+        Err(SheetRule::OtherMark)
     } else {
-        0
+        Ok(())
     }
 }
 
-// The number of a line of one part.
-fn number_of_one(tag: u8, value: &[u8], mark: u8) -> u64
-    ensures { result ≡ number_of (one_of mark tag value.now) }
+// A line of one part.
+fn judge_one(tag: u8, value: &[u8], mark: u8) -> Result<(), SheetRule>
+    ensures { Judges (one_of mark tag value.now) result }
 {
     if carried(tag) {
-        return 0;
+        return Ok(());
     }
     if !figured(tag) {
-        return refusal::NO_LINE;
+        return Err(SheetRule::NoLine);
     }
-    stray_number(value, mark)
+    judge_figures(value, mark)
 }
 
-// The number of a line of four parts. Figures that stand side by side are looked at in one go: a semicolon is no mark.
-fn number_of_four(
-    sheet: &[u8],
-    at: usize,
-    tag: u8,
-    first: usize,
-    second: usize,
-    third: usize,
-    end: usize,
-    mark: u8,
-) -> u64
-    requires { HasFour sheet.now at tag first second third end }
-    ensures { let s = sheet.now in result ≡ number_of (four_of mark tag (between (at + 2) first s) (between (first + 1) second s) (between (second + 1) third s) (between (third + 1) end s)) }
+// A line of four parts. Figures that stand side by side are looked at in one go: a semicolon is no mark.
+fn judge_four(sheet: &[u8], at: usize, tag: u8, parts: Parts, mark: u8) -> Result<(), SheetRule>
+    requires { HasParts sheet.now at tag parts }
+    ensures { let s = sheet.now in Judges (four_of mark tag (between (at + 2) parts.first s) (between (parts.first + 1) parts.second s) (between (parts.second + 1) parts.third s) (between (parts.third + 1) parts.end s)) result }
 {
     if tag == tag::I {
-        let from = first + 1;
-        return stray_number(&sheet[from..end], mark);
+        return judge_figures(&sheet[parts.first + 1..parts.end], mark);
     }
     if !traded(tag) {
-        return refusal::NO_LINE;
+        return Err(SheetRule::NoLine);
     }
-    let from = at + 2;
-    stray_number(&sheet[from..second], mark)
+    judge_figures(&sheet[at + 2..parts.second], mark)
 }
 
 // How many bytes a line of four parts makes that has so many without its line feed: a seat makes four fields, a trade one.
@@ -133,64 +96,47 @@ fn size_of_four(tag: u8, bytes: usize) -> usize
     if tag == tag::I { bytes + 7 } else { bytes + 1 }
 }
 
-fn taken(number: u64, next: usize, size: usize) -> Sized
-    ensures { result ≡ taken_as number next size }
-{
-    if number == 0 {
-        Sized::Good { next, size }
-    } else {
-        Sized::Bad(number)
-    }
-}
-
 // The line that begins at a place.
-fn size_line(sheet: &[u8], at: usize, mark: u8) -> Sized
+fn size_line(sheet: &[u8], at: usize, mark: u8) -> Result<Sized, SheetRule>
     requires { (at < length sheet.now) × (length sheet.now ≤ longest_book) }
     ensures { Sizes mark sheet.now at result }
 {
-    match form_at(sheet, at) {
-        Form::One { tag, end } => {
-            let from = at + 2;
-            taken(
-                number_of_one(tag, &sheet[from..end], mark),
-                end + 1,
-                end + 1 - at,
-            )
+    match line_at(sheet, at) {
+        Some(Line::One { tag, end }) => {
+            judge_one(tag, &sheet[at + 2..end], mark)?;
+            Ok(Sized {
+                next: end + 1,
+                size: end + 1 - at,
+            })
         }
-        Form::Four {
-            tag,
-            first,
-            second,
-            third,
-            end,
-        } => taken(
-            number_of_four(sheet, at, tag, first, second, third, end, mark),
-            end + 1,
-            size_of_four(tag, end - at),
-        ),
-        Form::Bad => Sized::Bad(refusal::NO_LINE),
+        Some(Line::Four { tag, parts }) => {
+            judge_four(sheet, at, tag, parts, mark)?;
+            Ok(Sized {
+                next: parts.end + 1,
+                size: size_of_four(tag, parts.end - at),
+            })
+        }
+        None => Err(SheetRule::NoLine),
     }
 }
 
 // The lines from a place on, where the second line of the sheet begins; Z ends the book.
-pub fn size_lines(sheet: &[u8], start: usize, mark: u8) -> Size
+pub fn size_lines(sheet: &[u8], start: usize, mark: u8) -> Result<usize, Refusal>
     requires { (start ≤ length sheet.now) × (length sheet.now ≤ longest_book) }
-    ensures { result ≡ sized_of (lines_from mark 2 (lines_of (drop start sheet.now))) }
+    ensures { Tells (lines_from mark 2 (lines_of (drop start sheet.now))) result }
 {
     let mut at = start;
-    let mut place: usize = 2;
-    let mut total: usize = 0;
+    let mut place = 2;
+    let mut total = 0;
     while at < sheet.len() {
         match size_line(sheet, at, mark) {
-            Sized::Good { next, size } => {
-                at = next;
+            Ok(line) => {
+                at = line.next;
                 place += 1;
-                total += size;
+                total += line.size;
             }
-            Sized::Bad(number) => {
-                return Size::Refused { number, place };
-            }
+            Err(rule) => return Err(Refusal { rule, place }),
         }
     }
-    Size::Length(total + END)
+    Ok(total + END)
 }
