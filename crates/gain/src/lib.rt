@@ -8,7 +8,7 @@ ghost use Rattle.rules.specs.Book.{net, net_long};
 ghost use Rattle.rules.specs.Standing.{counted_pending, locked_standing, other_standing, standing_at};
 ghost use Rattle.gain.specs.Ranges.{AtPrice, Gained, AtEdge, Ranged};
 
-use rules::{Fen, Lots, Position, Rate, Standing, Terms, lesser};
+use rules::{Fen, Lots, Position, Rate, Standing, Terms};
 
 // "(S - price) x lots for a long net position, (price - S) x lots for a short one"
 pub fn gain_of(long: bool, settlement: Fen, price: Fen, lots: u64) -> i64
@@ -25,13 +25,7 @@ pub fn gain_of(long: bool, settlement: Fen, price: Fen, lots: u64) -> i64
 pub fn net_of(position: Position) -> Lots
     ensures { result.0 ≡ net position }
 {
-    let long = position.long.0;
-    let short = position.short.0;
-    if short < long {
-        Lots(long - short)
-    } else {
-        Lots(short - long)
-    }
+    Lots(position.long.0.abs_diff(position.short.0))
 }
 
 // "on the larger's side"
@@ -45,7 +39,7 @@ pub fn net_long(position: Position) -> bool
 pub fn counted_pending(position: Position) -> Lots
     ensures { result.0 ≡ counted_pending position }
 {
-    Lots(lesser(position.unfilled.0, net_of(position).0))
+    Lots(position.unfilled.0.min(net_of(position).0))
 }
 
 // "total x 100,000 against rate x S x net"
@@ -95,9 +89,8 @@ pub fn standing_of(terms: Terms, position: Position, total: i64) -> Standing
 {
     let net = net_of(position);
     if net.0 == 0 {
-        return Standing::Neither;
-    }
-    if net_long(position) == terms.down {
+        Standing::Neither
+    } else if net_long(position) == terms.down {
         locked_standing(terms, position, total)
     } else {
         other_standing(terms, position, total)
