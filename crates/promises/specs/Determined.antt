@@ -10,6 +10,8 @@ use Rattle.rules.specs.declared.Lots.{Lots}
 use Rattle.consequences.specs.Rearranged.{trade_in}
 use Rattle.rules.proofs as rules
 use Rattle.rules.specs.contracts as rules_contracts
+use Rattle.answers.proofs as answers
+use Rattle.answers.specs.contracts as answers_contracts
 use Rattle.figures.proofs as figures
 use Rattle.figures.specs.contracts as figures_contracts
 use Rattle.codes.proofs as codes
@@ -52,6 +54,16 @@ lots r q e = ap (λ n. record { 0 = n }) e
 -- rules
 pub lesser : Determined rules_contracts.lesser.ended rules.lesser.Reads.Learnt
 lesser κs a r q s t e f = (e ∙ sym f, refl)
+
+pub number_of_a_rule : Determined rules_contracts.refusal.Rule.number.ended rules.refusal.Rule.number.Reads.Learnt
+number_of_a_rule κs a r q s t e f = (e ∙ sym f, refl)
+
+-- answers
+pub accepted : Determined answers_contracts.Answer.accepted.ended answers.Answer.accepted.Reads.Learnt
+accepted κs a r q s t e f = (e ∙ sym f, refl)
+
+pub refused : Determined answers_contracts.Answer.refused.ended answers.Answer.refused.Reads.Learnt
+refused κs a r q s t e f = (e ∙ sym f, refl)
 
 -- figures
 pub price_form : Determined figures_contracts.price_form.ended figures.price_form.Reads.Learnt
