@@ -15,9 +15,8 @@ ghost use Rattle.shell.specs.Shell.{number_of};
 ghost use Rattle.cutting.specs.Told.{or_else, grams_of, lots_of, read, verdict, row, rows, listing, said_of, status_of, Ends, Exit};
 
 use answers::Answer;
-use cutback::MOST_SEATS;
 use printing::{put_refusal, put_worded};
-use rules::{Figure, Form, refusal};
+use rules::{Figure, Form, MOST_SEATS, refusal};
 use shell::{Ended, Program, Status, Told};
 use std::process::ExitCode;
 use writing::{put_byte, put_bytes};
