@@ -26,14 +26,15 @@ pub fn put_three(out: &mut [u8], at: usize, a: u8, b: u8, c: u8) -> usize
     put_byte(out, third, c)
 }
 
-#[tactic(auto, unfolding(crate::specs::Written::written))]
+// Byte after byte: `copy_from_slice` would have an archive for C call `memmove` too.
 pub fn put_bytes(out: &mut [u8], at: usize, s: &[u8]) -> usize
     requires { Room at s.now out.old }
     ensures { Wrote at s.now out.old out.new result }
 {
-    let end = at + s.len();
-    out[at..end].copy_from_slice(s);
-    end
+    for (i, byte) in s.iter().enumerate() {
+        out[at + i] = *byte;
+    }
+    at + s.len()
 }
 
 pub fn digits_length(n: u64) -> usize
