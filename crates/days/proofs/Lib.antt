@@ -1,6 +1,5 @@
 pub mod Words
 pub mod Firsts
-pub mod Feeds
 pub mod Interest
 pub mod Nexts
 pub mod Counts

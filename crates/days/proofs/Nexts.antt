@@ -1,8 +1,8 @@
 -- What begins at a place, by where the next line feed stands; and the first line.
 -- Assumes nothing.
-use Rattle.std.specs.Prelude.{ℕ, ◌+◌, ◌-◌, ◌≤◌, ◌<◌, ◌≡◌, refl, Bool, List, [], ◌∷◌, length, take, drop, Option, Some, None, option_map, Result, Ok, Err, position}
+use Rattle.std.specs.Prelude.{ℕ, ◌+◌, ◌-◌, ◌≤◌, ◌<◌, ◌≡◌, refl, Bool, cond, List, [], ◌∷◌, length, take, drop, Option, Some, None, option_map, Result, Ok, Err, position}
 use Rattle.std.proofs.Common.{sym, ap, ◌∙◌, arith, length-drop, drop_of_length-le}
-use Rattle.std.specs.Result.{MatchResult, IsOkAnd}
+use Rattle.std.specs.Result.{MatchResult, IsOkAnd, is_ok}
 use Rattle.std.proofs.lemmas.List.{take_all}
 use Rattle.rules.specs.Text.{is}
 use Rattle.rules.specs.Figures.{up_to, after}
@@ -98,6 +98,12 @@ module _ (long : Bool) (s : List ℕ) where
 
     pub left_refused : (rule : ListRule) → next_of long s at ≡ Some (Err rule) → days_at long s at ≡ Err rule ∷ days_at long s (length s)
     left_refused rule e = days_begin at ∙ ap (days_by long s) e ∙ rw (days_none (length s) (omega arith))
+
+    -- what a line comes to, and the place from which the next is read: that behind the line, or the end
+    pub left_line : (n : ℕ) (r : Result Day ListRule) → found_at n r ≡ next_of long s at → (x : ℕ) → x ≡ cond (is_ok r) n (length s) →
+        days_at long s at ≡ r ∷ days_at long s x
+    left_line n (Ok d) e x h = left_found (record { day = d; next = n }) (sym e) ∙ ap (λ m. Ok d ∷ days_at long s m) (sym h)
+    left_line n (Err rule) e x h = left_refused rule (sym e) ∙ ap (λ m. Err rule ∷ days_at long s m) (sym h)
 
 -- the day of a line, with the place of the next
 pub mapped : (n : ℕ) (r : Result Day ListRule) (q : Result NextDay ListRule) → MatchResult r (λ x. IsOkAnd q (λ y. y ≡ record { day = x; next = n })) (λ e. q ≡ Err e) → Some q ≡ found_at n r

@@ -104,5 +104,5 @@ judged_taken metal (Stop rule place) = refl
 -- the days that an accepted list has
 pub taken_left : (long : Bool) (total : ℕ) (s : Bor (List ℕ)) (list : DayList) → IsTaken long s (verdict_of long total s.now) list →
     (ds : List Day) × (days_left list.days ≡ map Ok ds) × (length ds ≡ list.count) × (verdict_of long total s.now ≡ Accepted list.metal ds)
-taken_left long total s list (ds, v, count, same) =
-    (ds, rw same (all_left long s.now (start_of s.now) ds (accepted_days long total s.now list.metal ds v)), sym count, v)
+taken_left long total s list (ds, v, count, listed, start) =
+    (ds, rw listed (all_left long s.now (start_of s.now) ds (accepted_days long total s.now list.metal ds v)), sym count, v)

@@ -83,10 +83,10 @@ abbrev pub count_of : Days → Result ℕ Refusal
 count_of (All ds) = Ok (length ds)
 count_of (Stop rule place) = Err (record { rule = rule; place = place })
 
--- an accepted list: the days that are read from its second line on, and how many they are
+-- an accepted list: where its second line begins, the days that are read from there on, and how many they are
 abbrev pub IsTaken : Bool → Bor (List ℕ) → Verdict → DayList → Type 0
 IsTaken long s v list =
-    (ds : List Day) × (v ≡ Accepted list.metal ds) × (list.count ≡ length ds) × (list.days ≡ record { list = s; at = start_of s.now; long = long })
+    (ds : List Day) × (v ≡ Accepted list.metal ds) × (list.count ≡ length ds) × (list.days ≡ record { list = s; at = start_of s.now; long = long }) × (list.start ≡ start_of s.now)
 
 -- a refused one
 abbrev pub IsNotTaken : Verdict → Refusal → Type 0

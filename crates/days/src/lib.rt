@@ -54,18 +54,19 @@ pub struct Head {
     pub start: usize,
 }
 
-// The days of a list from a place on. Behind a line that is no day none is read.
-#[derive(Drop)]
+// The days of a list from a place on. Behind a line that is no day none is read. A copy reads the same ones again.
+#[derive(Clone, Copy)]
 pub struct Days<'a> {
     list: &'a [u8],
     at: usize,
     long: bool,
 }
 
-// An accepted list: its metal, its days, and how many they are.
-#[derive(Drop)]
+// An accepted list: its metal, where its first day begins, its days, and how many they are.
+#[derive(Clone, Copy)]
 pub struct DayList<'a> {
     pub metal: Metal,
+    pub start: usize,
     pub days: Days<'a>,
     pub count: usize,
 }
@@ -77,7 +78,11 @@ const MOST_FEEDS: usize = 2_001;
 pub fn count_feeds(s: &[u8]) -> usize
     ensures { (result ≡ feeds s.now) × (result ≤ length s.now) }
 {
-    s.iter().filter(|x| **x == b'\n').count()
+    let mut count = 0;
+    for x in s {
+        count += usize::from(*x == b'\n');
+    }
+    count
 }
 
 // The metal that has a name.
@@ -129,17 +134,25 @@ impl<'a> Iterator for Days<'a> {
 
     ghost remaining = { item_count days_left };
 
+    // As `next_day`, whose answer would be copied once more, which the time of a list shows.
     fn next(&mut self) -> Option<Result<Day, ListRule>> {
-        match next_day(self.list, self.at, self.long)? {
-            Ok(found) => {
-                self.at = found.next;
-                Some(Ok(found.day))
-            }
-            Err(rule) => {
-                self.at = self.list.len();
-                Some(Err(rule))
-            }
+        let list = self.list;
+        let at = self.at;
+        if list.len() <= at {
+            return None;
         }
+        let rest = &list[at..];
+        let Some(end) = first_at(rest, b'\n') else {
+            self.at = list.len();
+            return Some(Err(refusal::ListRule::NoDay));
+        };
+        let day = read_day(&rest[..end], self.long);
+        self.at = if day.is_ok() {
+            at + end + 1
+        } else {
+            list.len()
+        };
+        Some(day)
     }
 }
 
@@ -189,6 +202,7 @@ pub fn judge(s: &[u8], total: usize, long: bool) -> Result<DayList, Refusal>
     };
     Ok(DayList {
         metal: head.metal,
+        start: head.start,
         days,
         count: count_days(s, head.start, long)?,
     })

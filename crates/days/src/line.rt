@@ -2,7 +2,7 @@
 ghost use Rattle.std.specs.Prelude.{◌≡◌, cond, ◌||◌, Some, None, Ok};
 ghost use Rattle.rules.specs.Figures.{up_to, after, figure_of};
 ghost use Rattle.days.specs.Parts.{may_be_interest};
-ghost use Rattle.days.specs.Day.{part, interest_of, may_mark, marks, mark_of, judged_day, limit_of, tail_of, long_of, short_of, behind_price, day_of};
+ghost use Rattle.days.specs.Day.{part, interest_of, may_mark, marks, mark_of, judged_day, limit_of, tail_of, long_of, short_of, day_of};
 
 use crate::part::first_at;
 use crate::refusal::ListRule;
@@ -111,11 +111,12 @@ fn judge_day(price: u64, interest: u64, x: u8, limit: Option<Rate>) -> Result<Da
 fn read_limit(v: &[u8], price: u64, interest: u64, x: u8) -> Result<Day, ListRule>
     ensures { result ≡ limit_of price interest x v.now }
 {
-    if v == b"-".as_slice() {
-        return judge_day(price, interest, x, None);
-    }
-    let limit = number_in(v, RATE)?;
-    judge_day(price, interest, x, Some(Rate(limit)))
+    let limit = if v == b"-".as_slice() {
+        None
+    } else {
+        Some(Rate(number_in(v, RATE)?))
+    };
+    judge_day(price, interest, x, limit)
 }
 
 // A mark and a price limit.
@@ -150,21 +151,16 @@ fn read_short(v: &[u8], price: u64) -> Result<Day, ListRule>
     judge_day(price, read_interest(v)?, b'-', None)
 }
 
-fn read_behind(v: &[u8], price: u64, long: bool) -> Result<Day, ListRule>
-    ensures { result ≡ behind_price long price v.now }
-{
-    if long {
-        read_long(v, price)
-    } else {
-        read_short(v, price)
-    }
-}
-
 // A line without its line feed, in the longer form or in the short one.
 #[tactic(auto, unfolding(crate::specs::Day::day_of))]
 pub fn read_day(v: &[u8], long: bool) -> Result<Day, ListRule>
     ensures { result ≡ day_of long v.now }
 {
     let (price, rest) = cut(v);
-    read_behind(rest, number_in(price, SETTLEMENT)?, long)
+    let price = number_in(price, SETTLEMENT)?;
+    if long {
+        read_long(rest, price)
+    } else {
+        read_short(rest, price)
+    }
 }

@@ -60,19 +60,19 @@ rule_back NoDay = refl
 same_refusal : (r q : Refusal) → number_of r.rule ≡ number_of q.rule → r.place ≡ q.place → r ≡ q
 same_refusal r q n p i = record { rule = (sym (rule_back r.rule) ∙ ap rule_of n ∙ rule_back q.rule) i; place = p i }
 
-same_list : (r q : DayList) → r.metal ≡ q.metal → r.days ≡ q.days → r.count ≡ q.count → r ≡ q
-same_list r q m d n i = record { metal = m i; days = d i; count = n i }
+same_list : (r q : DayList) → r.metal ≡ q.metal → r.start ≡ q.start → r.days ≡ q.days → r.count ≡ q.count → r ≡ q
+same_list r q m at d n i = record { metal = m i; start = at i; days = d i; count = n i }
 
 -- a verdict is of one kind, and so is what the code answers
 judged : (long : Bool) (s : Bor (List ℕ)) (v : Verdict) (r q : Result DayList Refusal) →
     MatchResult r (IsTaken long s v) (IsNotTaken v) → MatchResult q (IsTaken long s v) (IsNotTaken v) → r ≡ q
-judged long s v (Ok r) (Ok q) (ds, a, n, d) (es, b, m, e) =
+judged long s v (Ok r) (Ok q) (ds, a, n, d, x) (es, b, m, e, y) =
     let same : Accepted r.metal ds ≡ Accepted q.metal es = sym a ∙ b in
     let metal : r.metal ≡ q.metal = cc in
     let days : ds ≡ es = cc in
-    ap Ok (same_list r q metal (d ∙ sym e) (n ∙ ap length days ∙ sym m))
-judged long s v (Ok r) (Err q) (ds, a, n, d) f = let e = sym a ∙ f in cc
-judged long s v (Err r) (Ok q) e (ds, a, n, d) = let f = sym a ∙ e in cc
+    ap Ok (same_list r q metal (x ∙ sym y) (d ∙ sym e) (n ∙ ap length days ∙ sym m))
+judged long s v (Ok r) (Err q) (ds, a, n, d, x) f = let e = sym a ∙ f in cc
+judged long s v (Err r) (Ok q) e (ds, a, n, d, x) = let f = sym a ∙ e in cc
 judged long s v (Err r) (Err q) e f =
     let same : Refused (number_of r.rule) r.place ≡ Refused (number_of q.rule) q.place = sym e ∙ f in
     let number : number_of r.rule ≡ number_of q.rule = cc in

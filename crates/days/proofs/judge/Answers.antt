@@ -24,4 +24,4 @@ pub returns : goal.returns
 returns c =
     let t = list_taken c.args.long c.args.total c.args.s.now c.if-total-gt-MOST_FEEDS.false c.in-Some.head (sym c.read_head.ensures ∙ c.in-Some.is) _ (sym c.count_days.ensures ∙ c.in_ok-count_days.was) in
     let h = head_of_lem c.args.s.now c.in-Some.head.metal c.in-Some.head.start (sym c.read_head.ensures ∙ c.in-Some.is) in
-    (t.0, t.1, t.2, rw h.place)
+    (t.0, t.1, t.2, rw h.place, h.place)
