@@ -1,12 +1,12 @@
 -- Where the code ends that stands at the front of a line, and what stands behind its line.
 -- Assumes nothing.
-use Prim.Native.Nat.{ℕ, suc, ◌+◌, ◌-◌, ◌<◌, ◌≤◌, min}
+use Prim.Native.Nat.{ℕ, suc, ◌+◌, ◌-◌, ◌<◌, ◌≤◌}
 use mathlib.Core.Path.{◌≡◌, refl, sym, ap, ap₂, ◌∙◌}
 use mathlib.Core.List.{List, [], ◌∷◌, map}
 use mathlib.Core.Bool.{Bool, cond, not, ◌||◌}
-use borrow.Author.Tests.{ltb-true, ltb-false}
+use borrow.Author.Tests.{ltb-false}
 use native.Mathlib.Omega.{arith}
-use lib.ListN.{length, take, drop, drop_of_length-le}
+use lib.ListN.{length, take, drop}
 use lib.Dec.{ltb, eqb}
 use Rattle.std.specs.Prelude.{unwrap_or, nat_lt}
 use Rattle.std.specs.List.{position, position_or_len}
@@ -71,23 +71,9 @@ codes_cons s end line h e l =
     let n : suc (length (first_line s)) ≡ line + 1 = omega (arith, ap (λ (m : ℕ). m + length (first_line (drop m s))) e, head_line s) in
     ap (map up_to_blank) (lines_cons s h) ∙ ap₂ (λ (c : List ℕ) (t : List ℕ). c ∷ codes_ahead t) (sym (head_part s) ∙ ap (λ (m : ℕ). take m s) (sym e)) (ap (λ (m : ℕ). drop m s) n)
 
--- that line ends within the text
-pub line_short : (s : List ℕ) (end line : ℕ) → end ≡ length (head s) → line ≡ end + length (first_line (drop end s)) → line ≤ length s
-line_short s end line e l = omega (arith, ap (λ (m : ℕ). m + length (first_line (drop m s))) e, head_line s, first_short s)
-
 -- what is behind a place, as Rattle has it of a slice
 pub take_rest : (s : List ℕ) (n : ℕ) → take (length s - n) (drop n s) ≡ drop n s
 take_rest s n = grind (arith, common_steps)
-
--- the place behind the line feed, or the end where there is none
-pub codes_behind : (s : List ℕ) (end line next : ℕ) → 0 < length s → end ≡ length (head s) → line ≡ end + length (first_line (drop end s)) → next ≡ min (line + 1) (length s) →
-    codes_ahead s ≡ take end s ∷ codes_ahead (drop next s)
-codes_behind s end line next h e l n =
-    let d : drop (line + 1) s ≡ drop next s =
-    by_test (ltb (length s) (line + 1))
-    (λ t. let a : length s ≤ line + 1 = omega (arith, ltb-true _ _ t) in let b : length s ≤ next = omega (arith, ltb-true _ _ t) in drop_of_length-le s a ∙ sym (drop_of_length-le s b))
-    (λ t. let f : line + 1 ≡ next = omega (arith, ltb-false _ _ t) in ap (λ (m : ℕ). drop m s) f) in
-    codes_cons s end line h e l ∙ ap (λ (t : List ℕ). take end s ∷ codes_ahead t) d
 
 -- there are never more lines than bytes
 onto_length : (b : ℕ) (ls : List (List ℕ)) → length (onto b ls) ≤ suc (length ls)

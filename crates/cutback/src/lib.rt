@@ -13,7 +13,7 @@ ghost use Rattle.cutback.specs.Keyed.{cut_at, Held};
 
 use answers::Answer;
 use refusal::CutRule;
-use rules::MOST_SEATS;
+pub use rules::MOST_SEATS;
 use rules::refusal::Rule;
 
 mod refusal;
@@ -27,13 +27,12 @@ use walk::{ByLine, BySize, Codes, read_codes};
 const TON: u64 = 1_000_000;
 
 // Article 34, in metric tons, where the metal is known.
-#[tactic(auto, using(crate::proofs::Words::same_bytes))]
 fn by_metal(metal: &[u8], gold: u64, silver: u64) -> Option<u64>
     ensures { result ≡ in_metal metal.now gold silver }
 {
-    if metal == b"gold".as_slice() {
+    if command::is(metal, b"gold") {
         Some(gold)
-    } else if metal == b"silver".as_slice() {
+    } else if command::is(metal, b"silver") {
         Some(silver)
     } else {
         None
@@ -41,13 +40,13 @@ fn by_metal(metal: &[u8], gold: u64, silver: u64) -> Option<u64>
 }
 
 // And by the customer's type.
-#[tactic(auto, using(crate::proofs::Words::same_bytes), unfolding(crate::specs::Limit::tons))]
+#[tactic(auto, unfolding(crate::specs::Limit::tons))]
 fn limit_of(kind: &[u8], metal: &[u8]) -> Option<u64>
     ensures { result ≡ some_tons (tons kind.now metal.now) }
 {
-    if kind == b"corporate".as_slice() {
+    if command::is(kind, b"corporate") {
         by_metal(metal, 2, 80)
-    } else if kind == b"individual".as_slice() {
+    } else if command::is(kind, b"individual") {
         by_metal(metal, 1, 20)
     } else {
         None

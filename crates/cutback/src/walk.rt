@@ -82,8 +82,11 @@ impl<'a> Codes<'a> for ByLine<'a> {
         }
         let end = code_end(text);
         let line = reasons::line_end(text, end);
-        let next = (line + 1).min(text.len());
-        self.text = &text[next..];
+        self.text = if line < text.len() {
+            &text[line + 1..]
+        } else {
+            &[]
+        };
         Some(&text[..end])
     }
 }
@@ -93,7 +96,7 @@ fn stands_again<'a, C: Codes<'a>>(code: &[u8], mut others: C) -> bool
     ensures { result ≡ again code.now (C.codes others) }
 {
     while let Some(other) = others.next() {
-        if code == other {
+        if command::is(code, other) {
             return true;
         }
     }
