@@ -218,11 +218,14 @@ fn put_out(rt: &HostRuntime, text: &[u8]) -> io::Result<()> {
     keep_file(rt)
 }
 
-fn ended_by(written: bool, status: Status) -> Ended
-    ensures { result.0 ≡ ended_by written (number_of status) }
+fn ended_by(written: bool, ended: Ended) -> Ended
+    ensures { result.0 ≡ ended_by written ended.0 }
 {
-    let status = if written { status } else { Status::Failed };
-    Ended::from(status)
+    if written {
+        ended
+    } else {
+        Ended::from(Status::Failed)
+    }
 }
 
 // Opens the file of a name. std opens none whose name is no text.
@@ -315,8 +318,8 @@ impl Program<'_> {
 
     // A program's last step: its text to standard output, then what it says to standard error. Where the output fails, that is said in its
     // place.
-    pub fn finish(&self, rt: &HostRuntime, text: &[u8], said: &[u8], status: Status) -> Ended
-        ensures { (result.0 ≡ failed) ⊎ (result.0 ≡ number_of status) }
+    pub fn finish_as(&self, rt: &HostRuntime, text: &[u8], said: &[u8], ended: Ended) -> Ended
+        ensures { (result.0 ≡ failed) ⊎ (result.0 ≡ ended.0) }
     {
         let written = match put_out(rt, text) {
             Ok(()) => {
@@ -328,7 +331,14 @@ impl Program<'_> {
                 false
             }
         };
-        ended_by(written, status)
+        ended_by(written, ended)
+    }
+
+    // The same, with a status.
+    pub fn finish(&self, rt: &HostRuntime, text: &[u8], said: &[u8], status: Status) -> Ended
+        ensures { (result.0 ≡ failed) ⊎ (result.0 ≡ number_of status) }
+    {
+        self.finish_as(rt, text, said, Ended::from(status))
     }
 
     // The same of what an input comes to, from the buffers that it was put into.
