@@ -5,7 +5,7 @@ mod judging;
 mod line;
 mod putting;
 mod reading;
-mod refusal;
+pub mod refusal;
 mod shown;
 mod sizing;
 mod spelling;
