@@ -1,7 +1,7 @@
 -- "Every public function's contract determines all it returns and all lent bytes, on refusal too", and the entry points ask for nothing: of the
 -- functions that read and write sheets. The contracts are those that the kit publishes of the source.
 -- Assumes nothing.
-use Rattle.std.specs.Prelude.{ℕ, ◌≡◌, List}
+use Rattle.std.specs.Prelude.{ℕ, ◌≡◌, refl, List}
 use Rattle.std.proofs.Common.{sym, ap, ◌∙◌}
 use contract.Lifetimes.{Lfts}
 use denote.Triple.Entry.{Args, Res}
@@ -35,6 +35,9 @@ sheet_to_book κs a r q s t e f = ((answered e f).0, ap (λ (l : List ℕ). (tt,
 
 pub book_to_sheet : Determined sheets_contracts.book_to_sheet.ended sheets.book_to_sheet.Reads.Learnt
 book_to_sheet κs a r q s t e f = ((answered e f).0, ap (λ (l : List ℕ). (tt, (tt, (l, tt)))) (answered e f).1)
+
+pub number : Determined sheets_contracts.refusal.SheetRule.number.ended sheets.refusal.SheetRule.number.Reads.Learnt
+number κs a r q s t e f = (e ∙ sym f, refl)
 
 -- whatever the bytes
 pub asks_sheet_to_book : AsksNothing sheets_contracts.sheet_to_book.ended sheets.sheet_to_book.Reads.Asked
